@@ -1,0 +1,5 @@
+pub mod Faults
+pub mod Steps
+pub mod Table
+pub mod Values
+pub mod Tables

@@ -1,0 +1,36 @@
+// One row: an actor with its phase times, or a channel with its rates.
+ghost use mathlib.Core.Path.{_≡_};
+ghost use Prim.Native.Nat.{_≤_};
+ghost use lib.ListN.{length};
+
+// One to eight numbers, one for each phase of an actor: times, or rates of a channel's end.
+#[derive(Clone, Copy)]
+pub struct Phases {
+    pub(crate) count: usize,
+    pub(crate) values: [u32; 8],
+    ghost few: { count ≤ 8 },
+    ghost whole: { length values ≡ 8 },
+}
+
+// Where an actor may run: on any processor, or on the one named.
+#[derive(Clone, Copy, PartialEq, Eq, Debug)]
+pub enum Placement {
+    Free,
+    Pinned(u32),
+}
+
+#[derive(Clone, Copy)]
+pub struct Actor {
+    pub(crate) times: Phases,
+    pub(crate) not_before: Option<u32>,
+    pub(crate) placement: Placement,
+}
+
+#[derive(Clone, Copy)]
+pub struct Channel {
+    pub(crate) writer: usize,
+    pub(crate) reader: usize,
+    pub(crate) writes: Phases,
+    pub(crate) reads: Phases,
+    pub(crate) ceiling: Option<u32>,
+}
