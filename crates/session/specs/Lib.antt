@@ -1,0 +1,4 @@
+pub mod Hands
+pub mod Calls
+pub mod Sessions
+pub mod Runs

@@ -1,0 +1,21 @@
+-- What a run of a list of calls on a new draft gives.
+use mathlib.Core.Path.{_≡_}
+use mathlib.Core.Bool.{true}
+use mathlib.Core.List.{List, map}
+use Prim.Native.Nat.{ℕ}
+use Rattle.std.specs.Of.Vec.{vec-items}
+use Rattle.rows.specs.Table.{lawful}
+use Rattle.draft.specs.Book.{newBook}
+use Rattle.session.specs.declared.calls.Call.{Call}
+use Rattle.session.specs.declared.outcome.Outcome.{Outcome}
+use Rattle.session.specs.Calls.{saidOf, answers, bookAfter}
+use Rattle.session.specs.Sessions.{sessionBook}
+
+pub record Follows (mark : ℕ) (calls : List Call) (outcome : Outcome) : Type 0 where
+  -- every answer is the book's
+  pub answered : map saidOf (vec-items (outcome .answers)) ≡ answers (newBook mark) calls
+  -- the rows that kept changes leave, the rows as edited so far and whether a change is open are the book's
+  pub booked : sessionBook (outcome .session) ≡ bookAfter (newBook mark) calls
+  -- every row of either table is one that the checks accept
+  pub standing-lawful : lawful (bookAfter (newBook mark) calls .standing) ≡ true
+  pub working-lawful : lawful (bookAfter (newBook mark) calls .working) ≡ true
