@@ -1,9 +1,8 @@
-// A draft made, a change opened, kept and withdrawn.
+// A draft made, a change opened and kept.
 ghost use mathlib.Core.Path.{_≡_};
 ghost use Rattle.std.specs.Vec.{made};
 ghost use Rattle.rows.specs.Steps.{Does};
-ghost use Rattle.rows.specs.Tables.{tableOf};
-ghost use Rattle.draft.specs.Book.{newBook, accepts, opening, keeping, withdrawing, orGivesBack};
+ghost use Rattle.draft.specs.Book.{newBook, accepts, opening, keeping, orGivesBack};
 ghost use Rattle.draft.specs.Drafts.{bookOf};
 use crate::draft::Draft;
 use crate::ticket::Returned;
@@ -21,25 +20,6 @@ impl Draft {
         let working = Rows::new(heap)?;
         let saved = Rows::new(heap)?;
         Ok(Draft { mark, working, saved, changing: false })
-    }
-
-    pub fn mark(&self) -> u32
-        ensures { λ r. ⌜ r ≡ bookOf (now (self .entry)) .mark ⌝ }
-    {
-        self.mark
-    }
-
-    pub fn is_changing(&self) -> bool
-        ensures { λ r. ⌜ r ≡ bookOf (now (self .entry)) .changing ⌝ }
-    {
-        self.changing
-    }
-
-    // The rows as edited so far.
-    pub fn rows(&self) -> &Rows
-        ensures { λ r. ⌜ tableOf (now r) ≡ bookOf (now (self .entry)) .working ⌝ }
-    {
-        &self.working
     }
 
     // Opens a change: saves a copy of the rows, and gives the ticket that the change is kept or withdrawn with.
@@ -61,19 +41,6 @@ impl Draft {
         if !self.accepts(&ticket) {
             return Err(Returned::new(ticket, Fault::TicketRefused));
         }
-        self.changing = false;
-        ticket.spend();
-        Ok(())
-    }
-
-    // Ends the change, and puts back the rows that were saved when it was opened.
-    pub fn withdraw(&mut self, ticket: Ticket) -> Result<(), Returned>
-        ensures { λ r. ⌜ Does (orGivesBack ticket (withdrawing (ticket .mark))) (bookOf (now (self .entry))) (bookOf (now (self .exit))) r ⌝ }
-    {
-        if !self.accepts(&ticket) {
-            return Err(Returned::new(ticket, Fault::TicketRefused));
-        }
-        std::mem::swap(&mut self.working, &mut self.saved);
         self.changing = false;
         ticket.spend();
         Ok(())

@@ -1,35 +1,14 @@
-// The edits of a draft, each shown the ticket of the change, and its rows by number.
-ghost use mathlib.Core.Path.{_≡_};
-ghost use Rattle.std.specs.Results.{Cases};
-ghost use Rattle.std.specs.declared.option.Option.the-variants.{Some, None};
-ghost use Rattle.rows.specs.declared.fault.Fault.the-variants.{NoActor, NoChannel};
+// The edits of a draft, each shown the ticket of the change.
 ghost use Rattle.rows.specs.Steps.{Does};
-ghost use Rattle.rows.specs.Table.{at, actorWith, channelWith, addActor, addChannel, cutActor, cutChannel};
-ghost use Rattle.rows.specs.Values.{actorRow, channelRow};
+ghost use Rattle.rows.specs.Table.{actorWith, channelWith, addActor, addChannel, cutActor, cutChannel};
 ghost use Rattle.draft.specs.Book.{editing};
 ghost use Rattle.draft.specs.Drafts.{bookOf};
 use crate::draft::Draft;
 use crate::ticket::Ticket;
 use rows::fault::Fault;
-use rows::row::Actor;
-use rows::row::Channel;
 use rows::row::Placement;
 
 impl Draft {
-    // The actor of this number.
-    pub fn actor(&self, number: usize) -> Result<Actor, Fault>
-        ensures { λ r. ⌜ Cases r (λ a. at (bookOf (now (self .entry)) .working .actors) number ≡ Some (actorRow a)) (λ f. (at (bookOf (now (self .entry)) .working .actors) number ≡ None) × (f ≡ NoActor)) ⌝ }
-    {
-        self.working.actor(number)
-    }
-
-    // The channel of this number.
-    pub fn channel(&self, number: usize) -> Result<Channel, Fault>
-        ensures { λ r. ⌜ Cases r (λ c. at (bookOf (now (self .entry)) .working .channels) number ≡ Some (channelRow c)) (λ f. (at (bookOf (now (self .entry)) .working .channels) number ≡ None) × (f ≡ NoChannel)) ⌝ }
-    {
-        self.working.channel(number)
-    }
-
     // Adds an actor, and answers its number.
     pub fn add_actor(&mut self, ticket: &Ticket, times: &[u32], not_before: Option<u32>, placement: Placement) -> Result<usize, Fault>
         ensures { λ r. ⌜ Does (editing (now (ticket .entry) .mark) (addActor (actorWith (now (times .entry)) «not_before» placement))) (bookOf (now (self .entry))) (bookOf (now (self .exit))) r ⌝ }

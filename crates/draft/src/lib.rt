@@ -2,4 +2,6 @@
 pub mod changes;
 pub mod draft;
 pub mod edits;
+pub mod reads;
 pub mod ticket;
+pub mod withdraw;
