@@ -25,19 +25,19 @@ module _ {V : Type 0} (edit : Step Fault Table V) (shown : ℕ) where
   edited : (b : Book) (after : Table) (r : Result V Fault) → accepts b shown ≡ true → Does edit (b .working) after r → Does (editing shown edit) b (withWorking b after) r
   edited b after r ok d =
       let passed : editing shown edit .fault b ≡ edit .fault (b .working) = cond-true (accepts b shown) (edit .fault (b .working)) (Some TicketRefused) ok in
-      record
-        { answered = d .answered ∙ ap (λ o. answer o (edit .value (b .working))) (sym passed)
-        ; left = ap (withWorking b) (d .left) ∙ leaves-working (edit .fault (b .working)) b (edit .made (b .working))
-          ∙ ap (λ o. leaves o b (withWorking b (edit .made (b .working)))) (sym passed)
-        }
+      record {
+        answered = d .answered ∙ ap (λ o. answer o (edit .value (b .working))) (sym passed);
+        left = ap (withWorking b) (d .left) ∙ leaves-working (edit .fault (b .working)) b (edit .made (b .working))
+            ∙ ap (λ o. leaves o b (withWorking b (edit .made (b .working)))) (sym passed);
+      }
 
   -- the standing rows are the saved ones while a change is open, and an edit is accepted only then
   pub edited-rows : (m : ℕ) (saved was after : Table) (changing : Bool) (r : Result V Fault)
       → accepts (record { mark = m; standing = cond changing saved was; working = was; changing = changing }) shown ≡ true
       → Does edit was after r
       → Does (editing shown edit)
-        (record { mark = m; standing = cond changing saved was; working = was; changing = changing })
-        (record { mark = m; standing = cond changing saved after; working = after; changing = changing })
-        r
+      (record { mark = m; standing = cond changing saved was; working = was; changing = changing })
+      (record { mark = m; standing = cond changing saved after; working = after; changing = changing })
+      r
   edited-rows m saved was after true r ok d = edited (record { mark = m; standing = saved; working = was; changing = true }) after r ok d
   edited-rows m saved was after false r ok d = let z : _≡_ {A = ℕ} 0 1 = cc in absurd (let w : ⊥ = omega arith in w)

@@ -7,7 +7,7 @@ use Rattle.std.proofs.shelf.Tests.{eq-eqb}
 use Rattle.std.specs.declared.result.Result.the-variants.{Ok}
 use Rattle.rows.specs.Steps.{Does}
 use Rattle.rows.specs.Table.{Table}
-use Rattle.rows.specs.Tables.{tableOf}
+use Rattle.table.specs.Tables.{tableOf}
 use Rattle.rows.proofs.Steps.{when-granted}
 use Rattle.draft.specs.declared.draft.Draft.{Draft}
 use Rattle.draft.specs.declared.ticket.Ticket.{Ticket}

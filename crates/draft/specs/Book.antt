@@ -26,11 +26,11 @@ newBook m = record { mark = m; standing = emptyTable; working = emptyTable; chan
 -- open begins a change, and gives a ticket of the draft's mark
 abbrev pub opening : Step Fault Book Ticket
 opening =
-    record
-      { fault = λ b. check (not (b .changing)) ChangeOpen None
-      ; value = λ b. ticketOf (b .mark)
-      ; made = λ b. record { mark = b .mark; standing = b .standing; working = b .working; changing = true }
-      }
+    record {
+      fault = λ b. check (not (b .changing)) ChangeOpen None;
+      value = λ b. ticketOf (b .mark);
+      made = λ b. record { mark = b .mark; standing = b .standing; working = b .working; changing = true };
+    }
 
 -- a ticket is accepted by its mark, while a change is open
 abbrev pub accepts : Book → ℕ → Bool
@@ -39,29 +39,29 @@ accepts b shown = b .changing && eqb shown (b .mark)
 -- an edit of the working rows, shown a ticket of a mark
 abbrev pub editing : {V : Type 0} → ℕ → Step Fault Table V → Step Fault Book V
 editing shown edit =
-    record
-      { fault = λ b. check (accepts b shown) TicketRefused (edit .fault (b .working))
-      ; value = λ b. edit .value (b .working)
-      ; made = λ b. record { mark = b .mark; standing = b .standing; working = edit .made (b .working); changing = b .changing }
-      }
+    record {
+      fault = λ b. check (accepts b shown) TicketRefused (edit .fault (b .working));
+      value = λ b. edit .value (b .working);
+      made = λ b. record { mark = b .mark; standing = b .standing; working = edit .made (b .working); changing = b .changing };
+    }
 
 -- keep makes the working rows the standing ones, and ends the change
 abbrev pub keeping : ℕ → Step Fault Book (Unit {0})
 keeping shown =
-    record
-      { fault = λ b. check (accepts b shown) TicketRefused None
-      ; value = λ b. tt
-      ; made = λ b. record { mark = b .mark; standing = b .working; working = b .working; changing = false }
-      }
+    record {
+      fault = λ b. check (accepts b shown) TicketRefused None;
+      value = λ b. tt;
+      made = λ b. record { mark = b .mark; standing = b .working; working = b .working; changing = false };
+    }
 
 -- withdraw makes the standing rows the working ones, and ends the change
 abbrev pub withdrawing : ℕ → Step Fault Book (Unit {0})
 withdrawing shown =
-    record
-      { fault = λ b. check (accepts b shown) TicketRefused None
-      ; value = λ b. tt
-      ; made = λ b. record { mark = b .mark; standing = b .standing; working = b .standing; changing = false }
-      }
+    record {
+      fault = λ b. check (accepts b shown) TicketRefused None;
+      value = λ b. tt;
+      made = λ b. record { mark = b .mark; standing = b .standing; working = b .standing; changing = false };
+    }
 
 -- a step that takes a ticket, and gives it back beside the fault where it is refused
 abbrev pub orGivesBack : {V : Type 0} → Ticket → Step Fault Book V → Step Returned Book V

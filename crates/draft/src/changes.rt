@@ -8,9 +8,9 @@ use crate::draft::Draft;
 use crate::ticket::Returned;
 use crate::ticket::Ticket;
 use rows::fault::Fault;
-use rows::rows::Rows;
 use std::alloc::AllocError;
 use std::alloc::Global;
+use table::rows::Rows;
 
 impl Draft {
     // An empty draft with a mark. It takes here all the memory that it ever needs.
@@ -19,7 +19,12 @@ impl Draft {
     {
         let working = Rows::new(heap)?;
         let saved = Rows::new(heap)?;
-        Ok(Draft { mark, working, saved, changing: false })
+        Ok(Draft {
+            mark,
+            working,
+            saved,
+            changing: false,
+        })
     }
 
     // Opens a change: saves a copy of the rows, and gives the ticket that the change is kept or withdrawn with.

@@ -1,5 +1,5 @@
 // A draft: the rows that are edited, and the rows to go back to while a change is open.
-use rows::rows::Rows;
+use table::rows::Rows;
 
 #[derive(Drop)]
 pub struct Draft {

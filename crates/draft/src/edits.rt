@@ -10,7 +10,13 @@ use rows::row::Placement;
 
 impl Draft {
     // Adds an actor, and answers its number.
-    pub fn add_actor(&mut self, ticket: &Ticket, times: &[u32], not_before: Option<u32>, placement: Placement) -> Result<usize, Fault>
+    pub fn add_actor(
+        &mut self,
+        ticket: &Ticket,
+        times: &[u32],
+        not_before: Option<u32>,
+        placement: Placement,
+    ) -> Result<usize, Fault>
         ensures { λ r. ⌜ Does (editing (now (ticket .entry) .mark) (addActor (actorWith (now (times .entry)) «not_before» placement))) (bookOf (now (self .entry))) (bookOf (now (self .exit))) r ⌝ }
     {
         if !self.accepts(ticket) {
@@ -20,13 +26,22 @@ impl Draft {
     }
 
     // Adds a channel, and answers its number.
-    pub fn add_channel(&mut self, ticket: &Ticket, writer: usize, reader: usize, writes: &[u32], reads: &[u32], ceiling: Option<u32>) -> Result<usize, Fault>
+    pub fn add_channel(
+        &mut self,
+        ticket: &Ticket,
+        writer: usize,
+        reader: usize,
+        writes: &[u32],
+        reads: &[u32],
+        ceiling: Option<u32>,
+    ) -> Result<usize, Fault>
         ensures { λ r. ⌜ Does (editing (now (ticket .entry) .mark) (addChannel (channelWith writer reader (now (writes .entry)) (now (reads .entry)) ceiling))) (bookOf (now (self .entry))) (bookOf (now (self .exit))) r ⌝ }
     {
         if !self.accepts(ticket) {
             return Err(Fault::TicketRefused);
         }
-        self.working.add_channel(writer, reader, writes, reads, ceiling)
+        self.working
+            .add_channel(writer, reader, writes, reads, ceiling)
     }
 
     // Cuts an actor that no channel names: every later actor's number is one lower, in the channels too.

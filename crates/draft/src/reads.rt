@@ -4,14 +4,14 @@ ghost use Rattle.std.specs.Results.{Cases};
 ghost use Rattle.std.specs.declared.option.Option.the-variants.{Some, None};
 ghost use Rattle.rows.specs.declared.fault.Fault.the-variants.{NoActor, NoChannel};
 ghost use Rattle.rows.specs.Table.{at};
-ghost use Rattle.rows.specs.Tables.{tableOf};
+ghost use Rattle.table.specs.Tables.{tableOf};
 ghost use Rattle.rows.specs.Values.{actorRow, channelRow};
 ghost use Rattle.draft.specs.Drafts.{bookOf};
 use crate::draft::Draft;
 use rows::fault::Fault;
 use rows::row::Actor;
 use rows::row::Channel;
-use rows::rows::Rows;
+use table::rows::Rows;
 
 impl Draft {
     pub fn mark(&self) -> u32

@@ -46,7 +46,10 @@ impl Drop for Returned {
     fn drop(self)
         requires { ⌜ self .ticket .spent ≡ true ⌝ }
     {
-        let Returned { ticket: _, fault: _ } = self;
+        let Returned {
+            ticket: _,
+            fault: _,
+        } = self;
     }
 }
 

@@ -1,4 +1,3 @@
 pub mod Places
-pub mod Lawful
 pub mod Steps
-pub mod Tables
+pub mod Parts

@@ -2,4 +2,3 @@ pub mod Faults
 pub mod Steps
 pub mod Table
 pub mod Values
-pub mod Tables

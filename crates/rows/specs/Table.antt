@@ -107,27 +107,27 @@ lawful t =
 
 abbrev pub addActor : ActorRow → Step Fault Table ℕ
 addActor a =
-    record
-      { fault = λ t. check (ltb (length (t .actors)) 64) TableFull (actorFault a)
-      ; value = λ t. length (t .actors)
-      ; made = λ t. record { actors = t .actors ++ a ∷ []; channels = t .channels }
-      }
+    record {
+      fault = λ t. check (ltb (length (t .actors)) 64) TableFull (actorFault a);
+      value = λ t. length (t .actors);
+      made = λ t. record { actors = t .actors ++ a ∷ []; channels = t .channels };
+    }
 
 abbrev pub addChannel : ChannelRow → Step Fault Table ℕ
 addChannel c =
-    record
-      { fault = λ t. check (ltb (length (t .channels)) 128) TableFull (channelFault (t .actors) c)
-      ; value = λ t. length (t .channels)
-      ; made = λ t. record { actors = t .actors; channels = t .channels ++ c ∷ [] }
-      }
+    record {
+      fault = λ t. check (ltb (length (t .channels)) 128) TableFull (channelFault (t .actors) c);
+      value = λ t. length (t .channels);
+      made = λ t. record { actors = t .actors; channels = t .channels ++ c ∷ [] };
+    }
 
 abbrev pub cutChannel : ℕ → Step Fault Table (Unit {0})
 cutChannel i =
-    record
-      { fault = λ t. check (ltb i (length (t .channels))) NoChannel None
-      ; value = λ t. tt
-      ; made = λ t. record { actors = t .actors; channels = removed (t .channels) i }
-      }
+    record {
+      fault = λ t. check (ltb i (length (t .channels))) NoChannel None;
+      value = λ t. tt;
+      made = λ t. record { actors = t .actors; channels = removed (t .channels) i };
+    }
 
 -- the channel has the actor at an end
 abbrev pub names : ℕ → ChannelRow → Bool
@@ -143,9 +143,9 @@ renumberedEnds gone c =
 
 abbrev pub cutActor : ℕ → Step Fault Table (Unit {0})
 cutActor i =
-    record
-      { fault = λ t.
-          check (ltb i (length (t .actors))) NoActor (check (every (λ c. not (names i c)) (t .channels)) ActorInUse None)
-      ; value = λ t. tt
-      ; made = λ t. record { actors = removed (t .actors) i; channels = map (renumberedEnds i) (t .channels) }
-      }
+    record {
+      fault = λ t.
+          check (ltb i (length (t .actors))) NoActor (check (every (λ c. not (names i c)) (t .channels)) ActorInUse None);
+      value = λ t. tt;
+      made = λ t. record { actors = removed (t .actors) i; channels = map (renumberedEnds i) (t .channels) };
+    }

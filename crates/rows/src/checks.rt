@@ -1,18 +1,67 @@
-// The checks that a row passes before it is added.
+// Rows made of plain values, where the checks of a row accept them.
 ghost use mathlib.Core.Path.{_≡_};
 ghost use mathlib.Core.Bool.{_&&_};
 ghost use mathlib.Core.List.{map};
 ghost use lib.Dec.{eqb, ltb};
 ghost use lib.ListN.{length};
-ghost use Rattle.rows.specs.Table.{actorFault, channelFault, every, within, withinIfGiven, pinWithin, goodRates, phasesAt};
-ghost use Rattle.rows.specs.Values.{actorRow};
+ghost use Rattle.std.specs.Results.{Cases};
+ghost use Rattle.std.specs.declared.option.Option.the-variants.{Some, None};
+ghost use Rattle.rows.specs.Table.{actorWith, channelWith, actorFault, channelFault, every, within, withinIfGiven, pinWithin, goodRates, phasesAt};
+ghost use Rattle.rows.specs.Values.{actorRow, channelRow};
 use crate::fault::Fault;
 use crate::row::Actor;
+use crate::row::Channel;
+use crate::row::Phases;
 use crate::row::Placement;
 
+impl Actor {
+    // The actor of these values, or the first of its checks that fails.
+    pub fn new(times: &[u32], not_before: Option<u32>, placement: Placement) -> Result<Actor, Fault>
+        ensures { λ r. ⌜ Cases r
+            (λ a. (actorFault (actorWith (now (times .entry)) «not_before» placement) ≡ None) × (actorRow a ≡ actorWith (now (times .entry)) «not_before» placement))
+            (λ f. actorFault (actorWith (now (times .entry)) «not_before» placement) ≡ Some f) ⌝ }
+    {
+        match actor_fault(times, not_before, placement) {
+            Some(fault) => Err(fault),
+            None => Ok(Actor {
+                times: Phases::new(times),
+                not_before,
+                placement,
+            }),
+        }
+    }
+}
+
+impl Channel {
+    // The channel of these values in a table of these actors, or the first of its checks that fails.
+    pub fn new(
+        actors: &[Actor],
+        writer: usize,
+        reader: usize,
+        writes: &[u32],
+        reads: &[u32],
+        ceiling: Option<u32>,
+    ) -> Result<Channel, Fault>
+        ensures { λ r. ⌜ Cases r
+            (λ c. (channelFault (map actorRow (now (actors .entry))) (channelWith writer reader (now (writes .entry)) (now (reads .entry)) ceiling) ≡ None) × (channelRow c ≡ channelWith writer reader (now (writes .entry)) (now (reads .entry)) ceiling))
+            (λ f. channelFault (map actorRow (now (actors .entry))) (channelWith writer reader (now (writes .entry)) (now (reads .entry)) ceiling) ≡ Some f) ⌝ }
+    {
+        match channel_fault(actors, writer, reader, writes, reads, ceiling) {
+            Some(fault) => Err(fault),
+            None => Ok(Channel {
+                writer,
+                reader,
+                writes: Phases::new(writes),
+                reads: Phases::new(reads),
+                ceiling,
+            }),
+        }
+    }
+}
+
 // The first check of an actor row that fails.
-pub fn actor_fault(times: &[u32], not_before: Option<u32>, placement: Placement) -> Option<Fault>
-    ensures { λ r. ⌜ r ≡ actorFault (record { times = now (times .entry); notBefore = «not_before»; placement = placement }) ⌝ }
+fn actor_fault(times: &[u32], not_before: Option<u32>, placement: Placement) -> Option<Fault>
+    ensures { λ r. ⌜ r ≡ actorFault (actorWith (now (times .entry)) «not_before» placement) ⌝ }
 {
     if times.is_empty() || times.len() > 8 {
         return Some(Fault::PhaseCount);
@@ -30,8 +79,15 @@ pub fn actor_fault(times: &[u32], not_before: Option<u32>, placement: Placement)
 }
 
 // The first check of a channel row that fails in a table of these actors.
-pub fn channel_fault(actors: &[Actor], writer: usize, reader: usize, writes: &[u32], reads: &[u32], ceiling: Option<u32>) -> Option<Fault>
-    ensures { λ r. ⌜ r ≡ channelFault (map actorRow (now (actors .entry))) (record { writer = writer; reader = reader; writes = now (writes .entry); reads = now (reads .entry); ceiling = ceiling }) ⌝ }
+fn channel_fault(
+    actors: &[Actor],
+    writer: usize,
+    reader: usize,
+    writes: &[u32],
+    reads: &[u32],
+    ceiling: Option<u32>,
+) -> Option<Fault>
+    ensures { λ r. ⌜ r ≡ channelFault (map actorRow (now (actors .entry))) (channelWith writer reader (now (writes .entry)) (now (reads .entry)) ceiling) ⌝ }
 {
     if !are_actors(actors, writer, reader) {
         return Some(Fault::NoActor);

@@ -1,8 +1,5 @@
-// The rows of a dataflow table: actors, channels, the checks that a row passes and the edits of a table.
+// The rows of a dataflow table: one actor or one channel, with the checks that it passes.
 pub mod checks;
-pub mod edits;
 pub mod fault;
-pub mod reads;
 pub mod row;
-pub mod rows;
 pub mod values;

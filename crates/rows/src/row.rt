@@ -3,7 +3,7 @@ ghost use mathlib.Core.Path.{_≡_};
 ghost use Prim.Native.Nat.{_≤_};
 ghost use lib.ListN.{length};
 
-// One to eight numbers, one for each phase of an actor: times, or rates of a channel's end.
+// Up to eight numbers, one for each phase of an actor: times, or rates of a channel's end.
 #[derive(Clone, Copy)]
 pub struct Phases {
     pub(crate) count: usize,

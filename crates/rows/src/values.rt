@@ -1,7 +1,8 @@
-// Rows made of plain values, and read back as such.
+// Rows read back as plain values, and channels whose actors get other numbers.
 ghost use mathlib.Core.Path.{_≡_};
 ghost use Prim.Native.Nat.{_≤_};
 ghost use lib.ListN.{length, take};
+ghost use Rattle.rows.specs.Table.{names, renumbered, renumberedEnds};
 ghost use Rattle.rows.specs.Values.{listed, actorRow, channelRow};
 use crate::row::Actor;
 use crate::row::Channel;
@@ -15,7 +16,10 @@ impl Phases {
         ensures { λ r. ⌜ listed r ≡ now (numbers .entry) ⌝ }
     {
         let values = padded(numbers);
-        Phases { count: numbers.len(), values }
+        Phases {
+            count: numbers.len(),
+            values,
+        }
     }
 
     pub fn as_slice(&self) -> &[u32]
@@ -88,4 +92,30 @@ impl Channel {
     {
         self.ceiling
     }
+
+    // The channel has the actor at an end.
+    pub fn names(&self, actor: usize) -> bool
+        ensures { λ r. ⌜ r ≡ names actor (channelRow (now (self .entry))) ⌝ }
+    {
+        actor == self.writer || actor == self.reader
+    }
+
+    // The channel with the numbers that its actors have once another actor is cut.
+    pub fn after_cut(self, gone: usize) -> Channel
+        ensures { λ r. ⌜ channelRow r ≡ renumberedEnds gone (channelRow self) ⌝ }
+    {
+        Channel {
+            writer: number_after_cut(self.writer, gone),
+            reader: number_after_cut(self.reader, gone),
+            writes: self.writes,
+            reads: self.reads,
+            ceiling: self.ceiling,
+        }
+    }
+}
+
+fn number_after_cut(actor: usize, gone: usize) -> usize
+    ensures { λ r. ⌜ r ≡ renumbered gone actor ⌝ }
+{
+    if actor > gone { actor - 1 } else { actor }
 }

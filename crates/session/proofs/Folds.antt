@@ -17,7 +17,7 @@ module _ (b n : Book) (calls : List Call) (i : ℕ) (call : Call) (said : Said) 
       → past′ ++ answers n (drop (i + 1) calls) ≡ all
   turn-answers past past′ all e inv =
       let more : answers b (drop i calls) ≡ says b (getD calls i call) ∷ answers (next b (getD calls i call)) (drop (i + 1) calls) =
-          at-drop-more (answers b) calls i call h in
+      at-drop-more (answers b) calls i call h in
       let told : said ≡ says b call = t .told in
       let left : n ≡ next b call = t .left in
       let this : says b (getD calls i call) ∷ answers (next b (getD calls i call)) (drop (i + 1) calls) ≡ said ∷ answers n (drop (i + 1) calls) = cc in

@@ -57,25 +57,27 @@ module _ (t : Ticket) (shown : ℕ) (was after : Book) (r : Result (Unit {0}) Re
   pub end-refused : (ending : Ending) → accepts was shown ≡ false → Does (orGivesBack t (endStep ending shown)) was after r
       → (r ≡ Err (record { ticket = t; fault = TicketRefused })) × (after ≡ was)
   end-refused ending h d =
-      let e = refuses ending h in
-      ( d .answered ∙ ap (λ o. answer (mapped (λ f. record { ticket = t; fault = f }) o) tt) e
-      , d .left ∙ ap (λ o. leaves (mapped {U = Returned} (λ f. record { ticket = t; fault = f }) o) was (endStep ending shown .made was)) e )
+      let e = refuses ending h in (
+        d .answered ∙ ap (λ o. answer (mapped (λ f. record { ticket = t; fault = f }) o) tt) e,
+        d .left ∙ ap (λ o. leaves (mapped {U = Returned} (λ f. record { ticket = t; fault = f }) o) was (endStep ending shown .made was)) e,
+      )
 
   -- one that it accepts ends the change
   pub end-granted : (ending : Ending) → accepts was shown ≡ true → Does (orGivesBack t (endStep ending shown)) was after r
       → (r ≡ Ok tt) × (after ≡ endStep ending shown .made was)
   end-granted ending h d =
-      let e = grants ending h in
-      ( d .answered ∙ ap (λ o. answer (mapped (λ f. record { ticket = t; fault = f }) o) tt) e
-      , d .left ∙ ap (λ o. leaves (mapped {U = Returned} (λ f. record { ticket = t; fault = f }) o) was (endStep ending shown .made was)) e )
+      let e = grants ending h in (
+        d .answered ∙ ap (λ o. answer (mapped (λ f. record { ticket = t; fault = f }) o) tt) e,
+        d .left ∙ ap (λ o. leaves (mapped {U = Returned} (λ f. record { ticket = t; fault = f }) o) was (endStep ending shown .made was)) e,
+      )
 
   pub end-tells-refused : (ending : Ending) → accepts was shown ≡ false → after ≡ was → Tells (saying (λ _. done) (endStep ending shown)) was after (refused TicketRefused)
   end-tells-refused ending h e =
       let none = refuses ending h in
-      record
-        { told = ap (λ o. orRefused o done) (sym none)
-        ; left = e ∙ ap (λ o. leaves o was (endStep ending shown .made was)) (sym none)
-        }
+      record {
+        told = ap (λ o. orRefused o done) (sym none);
+        left = e ∙ ap (λ o. leaves o was (endStep ending shown .made was)) (sym none);
+      }
 
   pub end-gives-back : (ending : Ending) (back : Returned) → accepts was shown ≡ false → Does (orGivesBack t (endStep ending shown)) was after r → r ≡ Err back
       → (back .ticket ≡ t) × (back .fault ≡ TicketRefused)

@@ -10,7 +10,7 @@ use Rattle.std.specs.declared.result.Result.the-variants.{Ok, Err}
 use Rattle.rows.specs.declared.fault.Fault.{Fault}
 use Rattle.rows.specs.Steps.{Step, leaves}
 use Rattle.rows.specs.Table.{Table, actorWith, channelWith, addActor, addChannel, cutActor, cutChannel}
-use Rattle.rows.specs.Tables.{tableOf}
+use Rattle.table.specs.Tables.{tableOf}
 use Rattle.draft.specs.Book.{Book, opening, editing, keeping, withdrawing}
 use Rattle.session.specs.declared.calls.Edit.{Edit}
 use Rattle.session.specs.declared.calls.Edit.the-variants.{AddActor, AddChannel, CutActor, CutChannel}

@@ -1,13 +1,23 @@
 // The calls that a run takes, and their answers.
 use rows::fault::Fault;
 use rows::row::Placement;
-use rows::rows::Rows;
+use table::rows::Rows;
 
 // An edit of the rows.
 #[derive(Drop)]
 pub enum Edit {
-    AddActor { times: Vec<u32>, not_before: Option<u32>, placement: Placement },
-    AddChannel { writer: usize, reader: usize, writes: Vec<u32>, reads: Vec<u32>, ceiling: Option<u32> },
+    AddActor {
+        times: Vec<u32>,
+        not_before: Option<u32>,
+        placement: Placement,
+    },
+    AddChannel {
+        writer: usize,
+        reader: usize,
+        writes: Vec<u32>,
+        reads: Vec<u32>,
+        ceiling: Option<u32>,
+    },
     CutActor(usize),
     CutChannel(usize),
 }

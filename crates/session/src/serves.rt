@@ -3,7 +3,7 @@ ghost use mathlib.Core.Path.{_≡_};
 ghost use mathlib.Core.Bool.{true, false};
 ghost use Rattle.std.specs.Vec.{made};
 ghost use Rattle.rows.specs.Steps.{Does};
-ghost use Rattle.rows.specs.Tables.{tableOf};
+ghost use Rattle.table.specs.Tables.{tableOf};
 ghost use Rattle.draft.specs.Book.{newBook, accepts, opening, editing, orGivesBack};
 ghost use Rattle.draft.specs.Drafts.{bookOf};
 ghost use Rattle.session.specs.Calls.{done, rows, saidOf, saying, collapsed, editStep, endStep, callStep, Tells};
@@ -19,9 +19,9 @@ use draft::draft::Draft;
 use draft::ticket::Returned;
 use draft::ticket::Ticket;
 use rows::fault::Fault;
-use rows::rows::Rows;
 use std::alloc::AllocError;
 use std::alloc::Global;
+use table::rows::Rows;
 
 impl Session {
     // A session on a new draft of this mark.
@@ -109,7 +109,12 @@ impl Session {
         }
     }
 
-    fn end_with_stray(&mut self, heap: Global, shown: u32, ending: Ending) -> Result<Answer, AllocError>
+    fn end_with_stray(
+        &mut self,
+        heap: Global,
+        shown: u32,
+        ending: Ending,
+    ) -> Result<Answer, AllocError>
         requires { ⌜ accepts (sessionBook (now self)) shown ≡ false ⌝ }
         ensures { λ r. ⌜ Serves (saying (λ _. done) (endStep ending shown)) (sessionBook (now (self .entry))) (sessionBook (now (self .exit))) r ⌝ }
     {
@@ -138,11 +143,28 @@ fn apply(draft: &mut Draft, ticket: &Ticket, edit: &Edit) -> Answer
     ensures { λ r. ⌜ Tells (editing (now (ticket .entry) .mark) (editStep (now (edit .entry)))) (bookOf (now (draft .entry))) (bookOf (now (draft .exit))) (saidOf r) ⌝ }
 {
     match edit {
-        Edit::AddActor { times, not_before, placement } => match draft.add_actor(ticket, times.as_slice(), *not_before, *placement) {
+        Edit::AddActor {
+            times,
+            not_before,
+            placement,
+        } => match draft.add_actor(ticket, times.as_slice(), *not_before, *placement) {
             Ok(number) => Answer::Actor(number),
             Err(fault) => Answer::Refused(fault),
         },
-        Edit::AddChannel { writer, reader, writes, reads, ceiling } => match draft.add_channel(ticket, *writer, *reader, writes.as_slice(), reads.as_slice(), *ceiling) {
+        Edit::AddChannel {
+            writer,
+            reader,
+            writes,
+            reads,
+            ceiling,
+        } => match draft.add_channel(
+            ticket,
+            *writer,
+            *reader,
+            writes.as_slice(),
+            reads.as_slice(),
+            *ceiling,
+        ) {
             Ok(number) => Answer::Channel(number),
             Err(fault) => Answer::Refused(fault),
         },

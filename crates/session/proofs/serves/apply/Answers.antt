@@ -11,7 +11,7 @@ pub returns-in-CutActor : need.returns-in-CutActor
 returns-in-CutActor c =
     subst
     (λ (e : Edit).
-        Tells (editing (c .args .ticket .now .mark) (editStep e)) (bookOf (c .args .draft .now)) (bookOf (c .cut-actor .last .self)) (saidOf (c .done-or-refused .result)))
+    Tells (editing (c .args .ticket .now .mark) (editStep e)) (bookOf (c .args .draft .now)) (bookOf (c .cut-actor .last .self)) (saidOf (c .done-or-refused .result)))
     (sym (c .in-CutActor .is))
     (told (λ _. done) (editing (c .args .ticket .now .mark) (cutActor (c .in-CutActor .number))) _ _ _ _ (c .cut-actor .ensures) (c .done-or-refused .ensures))
 
@@ -19,8 +19,8 @@ pub returns-in-CutChannel : need.returns-in-CutChannel
 returns-in-CutChannel c =
     subst
     (λ (e : Edit).
-        Tells (editing (c .args .ticket .now .mark) (editStep e)) (bookOf (c .args .draft .now)) (bookOf (c .cut-channel .last .self))
-        (saidOf (c .done-or-refused-in-CutChannel .result)))
+    Tells (editing (c .args .ticket .now .mark) (editStep e)) (bookOf (c .args .draft .now)) (bookOf (c .cut-channel .last .self))
+    (saidOf (c .done-or-refused-in-CutChannel .result)))
     (sym (c .in-CutChannel .is))
     (told (λ _. done) (editing (c .args .ticket .now .mark) (cutChannel (c .in-CutChannel .number))) _ _ _ _ (c .cut-channel .ensures)
     (c .done-or-refused-in-CutChannel .ensures))

@@ -12,9 +12,10 @@ ghost-self c =
     let no = stray-accepted (sessionBook (c .args .self .now)) _ _ (c .in-Continue-other .ensures tt .2) ∙ c .pre in
     let same = end-refused _ _ _ _ _ (c .args .ending) no (c .finish .ensures) .1 in
     let changing = ap (λ (b : Book). b .changing) same in
-    let mark = ap (λ (b : Book). b .mark) same in
-    ( c .args .self .now .held ∙ sym changing
-    , (ap (markOr (c .args .self .now .hand)) mark ∙ c .args .self .now .same ∙ sym mark, tt) )
+    let mark = ap (λ (b : Book). b .mark) same in (
+      c .args .self .now .held ∙ sym changing,
+      (ap (markOr (c .args .self .now .hand)) mark ∙ c .args .self .now .same ∙ sym mark, tt),
+    )
 
 pub hand-in-requires : need.hand-in-requires
 hand-in-requires c κs =
