@@ -32,6 +32,17 @@ fn add_actor(draft: &mut Draft, times: &[u32]) -> Result<usize, Fault>
     }
 }
 
+// Shows a draft the ticket of another draft's change: refused where their marks differ.
+// The change is withdrawn, so the other draft keeps the rows that stood.
+fn show_elsewhere(draft: &mut Draft, other: &mut Draft, times: &[u32]) -> Result<usize, Fault>
+    ensures { λ _. ⌜ bookOf (now (other .exit)) .standing ≡ bookOf (now (other .entry)) .standing ⌝ }
+{
+    let ticket = other.open()?;
+    let answer = draft.add_actor(&ticket, times, None, Placement::Free);
+    withdraw(other, ticket);
+    answer
+}
+
 fn keep(draft: &mut Draft, ticket: Ticket)
     requires { ⌜ accepts (bookOf (now draft)) (ticket .mark) ≡ true ⌝ }
     ensures { λ _. ⌜ bookOf (now (draft .exit)) ≡ keeping (ticket .mark) .made (bookOf (now (draft .entry))) ⌝ }
@@ -56,13 +67,25 @@ fn main(rt: LibcRuntime) -> Result<(), AnyError> {
     let mut draft = Draft::new(rt.alloc(), 7)?;
     let first = add_actor(&mut draft, &[3, 1, 1]);
     let second = add_actor(&mut draft, &[0]);
+    let mut other = Draft::new(rt.alloc(), 8)?;
+    let third = show_elsewhere(&mut draft, &mut other, &[1]);
     let rows = draft.rows().actors().len();
-    match (first, second) {
-        (Ok(number), Err(fault)) => {
-            let refusal = fault.number();
-            println!(rt, "actor {number} kept, refusal {refusal}, {rows} row")?;
+    println!(rt, "{rows} row")?;
+    tell(&rt, first)?;
+    tell(&rt, second)?;
+    tell(&rt, third)?;
+    Ok(())
+}
+
+// Prints the number of an added actor, or the refusal.
+fn tell(rt: &LibcRuntime, answer: Result<usize, Fault>) -> Result<(), AnyError> {
+    match answer {
+        Ok(number) => println!(rt, "actor {number}")?,
+        Err(fault) => {
+            let number = fault.number();
+            let place = fault.place();
+            println!(rt, "refused {number} at {place}")?;
         }
-        _ => println!(rt, "not as expected")?,
     }
     Ok(())
 }

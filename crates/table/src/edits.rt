@@ -13,6 +13,11 @@ use rows::row::Actor;
 use rows::row::Channel;
 use rows::row::Placement;
 
+// The most rows that a table may have.
+const MOST_ACTORS: usize = 64;
+
+const MOST_CHANNELS: usize = 128;
+
 impl Rows {
     // Adds an actor, which gets the next number.
     pub fn add_actor(
@@ -24,7 +29,7 @@ impl Rows {
         ensures { λ r. ⌜ Does (addActor (actorWith (now (times .entry)) «not_before» placement)) (tableOf (now (self .entry))) (tableOf (now (self .exit))) r ⌝ }
     {
         let number = self.actors.len();
-        if number >= 64 {
+        if number >= MOST_ACTORS {
             return Err(Fault::TableFull);
         }
         match Actor::new(times, not_before, placement) {
@@ -48,7 +53,7 @@ impl Rows {
         ensures { λ r. ⌜ Does (addChannel (channelWith writer reader (now (writes .entry)) (now (reads .entry)) ceiling)) (tableOf (now (self .entry))) (tableOf (now (self .exit))) r ⌝ }
     {
         let number = self.channels.len();
-        if number >= 128 {
+        if number >= MOST_CHANNELS {
             return Err(Fault::TableFull);
         }
         match Channel::new(

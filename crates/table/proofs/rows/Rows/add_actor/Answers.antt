@@ -11,13 +11,13 @@ use Rattle.table.specs.Tables.{tableOf}
 use Rattle.table.proofs.Tables.{fewer, not-fewer, next-number, actor-added, actor-added-lawful}
 use Rattle.table.proofs.rows.Rows.add_actor.Needs as need
 
-pub returns-then-number-ge64 : need.returns-then-number-ge64
-returns-then-number-ge64 c =
+pub returns-then-number-ge-MOST-ACTORS : need.returns-then-number-ge-MOST-ACTORS
+returns-then-number-ge-MOST-ACTORS c =
     let rows = c .args .self .now in
     let row = actorWith (c .args .times .now) (c .args .not-before) (c .args .placement) in
     let len = c .len-number .ensures ∙ rows .actors .ok .0 in
     refused (addActor row) (tableOf rows) (tableOf rows) TableFull
-    (sym (check-failed _ TableFull (actorFault row) (not-fewer actorRow (vec-items (rows .actors)) (c .len-number .result) len 64 (c .if-number-ge64 .taken)))) refl
+    (sym (check-failed _ TableFull (actorFault row) (not-fewer actorRow (vec-items (rows .actors)) (c .len-number .result) len 64 (c .if-number-ge-MOST-ACTORS .taken)))) refl
 
 pub ghost-self : need.ghost-self
 ghost-self c =
@@ -26,7 +26,7 @@ ghost-self c =
     let len = c .len-number .ensures ∙ rows .actors .ok .0 in
     let made = c .in-Ok .ensures tt in
     let none : addActor row .fault (tableOf rows) ≡ None =
-    check-from _ TableFull (actorFault row) (fewer actorRow (vec-items (rows .actors)) (c .len-number .result) len 64 (c .if-number-ge64 .left)) (made .0) in
+    check-from _ TableFull (actorFault row) (fewer actorRow (vec-items (rows .actors)) (c .len-number .result) len 64 (c .if-number-ge-MOST-ACTORS .left)) (made .0) in
     let cap = c .push-reserved .ensures .capacity in
     let room = rows .«actor_room» in (
       omega arith,
@@ -46,7 +46,7 @@ returns-in-Ok c =
     let len = c .len-number .ensures ∙ rows .actors .ok .0 in
     let made = c .in-Ok .ensures tt in
     let none : addActor row .fault (tableOf rows) ≡ None =
-    check-from _ TableFull (actorFault row) (fewer actorRow (vec-items (rows .actors)) (c .len-number .result) len 64 (c .if-number-ge64 .left)) (made .0) in
+    check-from _ TableFull (actorFault row) (fewer actorRow (vec-items (rows .actors)) (c .len-number .result) len 64 (c .if-number-ge-MOST-ACTORS .left)) (made .0) in
     granted (addActor row) (tableOf rows) _ _ none (next-number actorRow (vec-items (rows .actors)) (c .len-number .result) len)
     (actor-added (vec-items (rows .actors)) (vec-items (rows .channels)) (rows .accepted) row (c .in-Ok .actor) _ (made .1) (c .push-reserved .ensures .items))
 
@@ -56,4 +56,4 @@ returns-in-Err c =
     let row = actorWith (c .args .times .now) (c .args .not-before) (c .args .placement) in
     let len = c .len-number .ensures ∙ rows .actors .ok .0 in
     refused (addActor row) (tableOf rows) (tableOf rows) (c .in-Err .fault)
-    (sym (check-passed _ TableFull (actorFault row) _ (fewer actorRow (vec-items (rows .actors)) (c .len-number .result) len 64 (c .if-number-ge64 .left)) (sym (c .in-Err .ensures tt)))) refl
+    (sym (check-passed _ TableFull (actorFault row) _ (fewer actorRow (vec-items (rows .actors)) (c .len-number .result) len 64 (c .if-number-ge-MOST-ACTORS .left)) (sym (c .in-Err .ensures tt)))) refl
