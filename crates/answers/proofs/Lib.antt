@@ -1,0 +1,5 @@
+pub mod Printed
+pub mod Spaced
+pub mod Figures
+pub mod RowLines
+pub mod ReadBack

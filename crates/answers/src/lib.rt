@@ -1,0 +1,4 @@
+// The text of the answers to a list of calls.
+pub mod printer;
+#[cfg(test)]
+mod tests;

@@ -1,0 +1,5 @@
+pub mod Plain
+pub mod Grammar
+pub mod Reads
+pub mod Scripts
+pub mod Whole

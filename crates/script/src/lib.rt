@@ -1,0 +1,3 @@
+// The text of a script of calls on a draft.
+pub mod parser;
+pub mod script;
