@@ -22,7 +22,7 @@ use Rattle.tokens.specs.declared.token.Token.{Token}
 use Rattle.tokens.specs.declared.token.Token.the-variants.{Mark, Actor, Channel}
 use Rattle.tokens.specs.declared.expected.Expected.{Expected}
 use Rattle.tokens.specs.Lines.{tokensOf, linesFrom}
-use Rattle.tokens.specs.Reading.{andThen, starts}
+use Rattle.script.specs.Reading.{andThen, starts}
 use Rattle.script.specs.Plain.{PlainCall}
 use Rattle.script.specs.Grammar.{callOf}
 use Rattle.script.specs.Scripts.{PlainScript, sofarWith, lineOf, numbered, linesRead, scriptOf}

@@ -20,7 +20,7 @@ use Rattle.tokens.specs.declared.token.Token.the-variants.{Number, Actor, Times
 use Rattle.tokens.specs.declared.expected.Expected.{Expected}
 use Rattle.tokens.specs.Tokens.{tokenOf, asNumber}
 use Rattle.tokens.specs.Lines.{tokensOf, linesFrom}
-use Rattle.tokens.specs.Reading.{Reading, andThen, thisWord, firstNumber, numbersFrom, numberIf, ended}
+use Rattle.script.specs.Reading.{Reading, andThen, thisWord, firstNumber, numbersFrom, numberIf, ended}
 use Rattle.script.specs.Plain.{PlainEdit, PlainCall, actorAdded, channelAdded, edited}
 use Rattle.script.specs.Grammar.{callOf, placed}
 use Rattle.answers.specs.Texts.{spacedText, optionText, pinOf, actorText, channelText}

@@ -1,4 +1,2 @@
 // The text of the answers to a list of calls.
 pub mod printer;
-#[cfg(test)]
-mod tests;

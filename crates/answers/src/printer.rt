@@ -92,9 +92,9 @@ fn push_channels(out: &mut String, channels: &[Channel]) -> Result<(), AllocErro
 fn push_actor(out: &mut String, actor: &Actor) -> Result<(), AllocError>
     ensures { λ r. ⌜ made r (λ _. string-bytes (now (out .exit)) ≡ string-bytes (now (out .entry)) ++ actorText (actorRow (now (actor .entry)))) ⌝ }
 {
-    push_list(out, "actor times", actor.times())?;
-    push_option(out, " not-before ", actor.not_before())?;
-    push_last(out, " pin ", pin_of(actor.placement()))
+    push_list(out, "actor times", actor.times.as_slice())?;
+    push_option(out, " not-before ", actor.not_before)?;
+    push_last(out, " pin ", pin_of(actor.placement))
 }
 
 fn pin_of(placement: Placement) -> Option<u32>
@@ -109,10 +109,10 @@ fn pin_of(placement: Placement) -> Option<u32>
 fn push_channel(out: &mut String, channel: &Channel) -> Result<(), AllocError>
     ensures { λ r. ⌜ made r (λ _. string-bytes (now (out .exit)) ≡ string-bytes (now (out .entry)) ++ channelText (channelRow (now (channel .entry)))) ⌝ }
 {
-    push_ends(out, channel.writer(), channel.reader())?;
-    push_list(out, " writes", channel.writes())?;
-    push_list(out, " reads", channel.reads())?;
-    push_last(out, " ceiling ", channel.ceiling())
+    push_ends(out, channel.writer, channel.reader)?;
+    push_list(out, " writes", channel.writes.as_slice())?;
+    push_list(out, " reads", channel.reads.as_slice())?;
+    push_last(out, " ceiling ", channel.ceiling)
 }
 
 fn push_ends(out: &mut String, writer: usize, reader: usize) -> Result<(), AllocError>

@@ -1,4 +1,7 @@
 // Runs a script of calls from standard input on a new draft, and prints each answer.
+#[cfg(test)]
+mod tests;
+
 use answers::printer::answers_text;
 use script::script::Script;
 use script::script::parse;

@@ -21,16 +21,16 @@ pub enum Placement {
 
 #[derive(Clone, Copy)]
 pub struct Actor {
-    pub(crate) times: Phases,
-    pub(crate) not_before: Option<u32>,
-    pub(crate) placement: Placement,
+    pub times: Phases,
+    pub not_before: Option<u32>,
+    pub placement: Placement,
 }
 
 #[derive(Clone, Copy)]
 pub struct Channel {
-    pub(crate) writer: usize,
-    pub(crate) reader: usize,
-    pub(crate) writes: Phases,
-    pub(crate) reads: Phases,
-    pub(crate) ceiling: Option<u32>,
+    pub writer: usize,
+    pub reader: usize,
+    pub writes: Phases,
+    pub reads: Phases,
+    pub ceiling: Option<u32>,
 }

@@ -1,13 +1,11 @@
-// Rows read back as plain values, and channels whose actors get other numbers.
+// The numbers of a row's phases, and channels whose actors get other numbers.
 ghost use mathlib.Core.Path.{_≡_};
 ghost use Prim.Native.Nat.{_≤_};
 ghost use lib.ListN.{length, take};
 ghost use Rattle.rows.specs.Table.{names, renumbered, renumberedEnds};
-ghost use Rattle.rows.specs.Values.{listed, actorRow, channelRow};
-use crate::row::Actor;
+ghost use Rattle.rows.specs.Values.{listed, channelRow};
 use crate::row::Channel;
 use crate::row::Phases;
-use crate::row::Placement;
 
 impl Phases {
     // The numbers given, of which there are at most eight.
@@ -22,7 +20,8 @@ impl Phases {
         }
     }
 
-    pub(crate) fn as_slice(&self) -> &[u32]
+    // The numbers, phase by phase.
+    pub fn as_slice(&self) -> &[u32]
         ensures { λ r. ⌜ now r ≡ listed (now (self .entry)) ⌝ }
     {
         &self.values[0..self.count]
@@ -40,59 +39,7 @@ fn padded(numbers: &[u32]) -> [u32; 8]
     values
 }
 
-impl Actor {
-    pub fn times(&self) -> &[u32]
-        ensures { λ r. ⌜ now r ≡ actorRow (now (self .entry)) .times ⌝ }
-    {
-        self.times.as_slice()
-    }
-
-    pub fn not_before(&self) -> Option<u32>
-        ensures { λ r. ⌜ r ≡ actorRow (now (self .entry)) .notBefore ⌝ }
-    {
-        self.not_before
-    }
-
-    pub fn placement(&self) -> Placement
-        ensures { λ r. ⌜ r ≡ actorRow (now (self .entry)) .placement ⌝ }
-    {
-        self.placement
-    }
-}
-
 impl Channel {
-    pub fn writer(&self) -> usize
-        ensures { λ r. ⌜ r ≡ channelRow (now (self .entry)) .writer ⌝ }
-    {
-        self.writer
-    }
-
-    pub fn reader(&self) -> usize
-        ensures { λ r. ⌜ r ≡ channelRow (now (self .entry)) .reader ⌝ }
-    {
-        self.reader
-    }
-
-    // The tokens that each phase of the writer writes.
-    pub fn writes(&self) -> &[u32]
-        ensures { λ r. ⌜ now r ≡ channelRow (now (self .entry)) .writes ⌝ }
-    {
-        self.writes.as_slice()
-    }
-
-    // The tokens that each phase of the reader takes.
-    pub fn reads(&self) -> &[u32]
-        ensures { λ r. ⌜ now r ≡ channelRow (now (self .entry)) .reads ⌝ }
-    {
-        self.reads.as_slice()
-    }
-
-    pub fn ceiling(&self) -> Option<u32>
-        ensures { λ r. ⌜ r ≡ channelRow (now (self .entry)) .ceiling ⌝ }
-    {
-        self.ceiling
-    }
-
     // The channel has the actor at an end.
     pub fn names(&self, actor: usize) -> bool
         ensures { λ r. ⌜ r ≡ names actor (channelRow (now (self .entry))) ⌝ }

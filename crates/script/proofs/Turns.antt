@@ -13,7 +13,7 @@ use Rattle.tokens.specs.declared.expected.Expected.{Expected}
 use Rattle.tokens.specs.declared.expected.ScriptError.{ScriptError}
 use Rattle.tokens.specs.declared.expected.ScriptError.the-variants.{NoMemory, NoCall}
 use Rattle.tokens.specs.Lines.{tokensOf, linesFrom}
-use Rattle.tokens.specs.Reading.{andThen}
+use Rattle.script.specs.Reading.{andThen}
 use Rattle.script.specs.Scripts.{Sofar, PlainScript, finished, lineOf, numbered, linesRead}
 use Rattle.script.specs.Whole.{FailsAt}
 

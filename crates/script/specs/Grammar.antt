@@ -14,8 +14,8 @@ use Rattle.tokens.specs.declared.token.Token.{Token}
 use Rattle.tokens.specs.declared.token.Token.the-variants.{Ticket, Open, Actor, Times, NotBefore, Pin, Channel, Writes, Reads, Ceiling, Cut, Keep, Withdraw, Rows}
 use Rattle.tokens.specs.declared.expected.Expected.{Expected}
 use Rattle.tokens.specs.declared.expected.Expected.the-variants.{Call, Shown, Kind}
-use Rattle.tokens.specs.Reading.{Reading, andThen, starts, tail, thisWord, numberAfter, allNumbers, numberIf}
-use Rattle.tokens.specs.Reading.{ended as lineEnded}
+use Rattle.script.specs.Reading.{Reading, andThen, starts, tail, thisWord, numberAfter, allNumbers, numberIf}
+use Rattle.script.specs.Reading.{ended as lineEnded}
 use Rattle.script.specs.Plain.{PlainEdit, PlainCall, actorAdded, channelAdded, actorCut, channelCut, opened, edited, ended, rowsShown}
 
 abbrev pub placed : Option ℕ → Placement

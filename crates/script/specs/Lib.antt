@@ -1,3 +1,5 @@
+pub mod Reading
+pub mod Rest
 pub mod Plain
 pub mod Grammar
 pub mod Reads

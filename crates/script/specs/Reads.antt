@@ -8,7 +8,7 @@ use Rattle.tokens.specs.declared.token.Token.{Token}
 use Rattle.tokens.specs.declared.expected.Expected.{Expected}
 use Rattle.tokens.specs.declared.expected.LineError.{LineError}
 use Rattle.tokens.specs.declared.expected.LineError.the-variants.{NoMemory, NoCall}
-use Rattle.tokens.specs.Reading.{Reading}
+use Rattle.script.specs.Reading.{Reading}
 
 -- the error is what was expected, or that memory is wanting
 abbrev pub Fails : {X : Type 0} → LineError → Result X Expected → Type 0

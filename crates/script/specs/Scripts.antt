@@ -14,7 +14,7 @@ use Rattle.tokens.specs.declared.token.Token.the-variants.{Mark}
 use Rattle.tokens.specs.declared.expected.Expected.{Expected}
 use Rattle.tokens.specs.declared.expected.Expected.the-variants.{OneMark}
 use Rattle.tokens.specs.Lines.{tokensOf, linesOf}
-use Rattle.tokens.specs.Reading.{andThen, starts, tail, numberAfter, ended}
+use Rattle.script.specs.Reading.{andThen, starts, tail, numberAfter, ended}
 use Rattle.script.specs.Plain.{PlainCall}
 use Rattle.script.specs.Grammar.{callOf}
 

@@ -3,7 +3,8 @@ ghost use mathlib.Core.Path.{_≡_};
 ghost use Rattle.script.specs.Grammar.{actorRest, channelRest, cutRest, editRest, shownRest, callRest, callOf, placed};
 ghost use Rattle.script.specs.Plain.{plainEdit, plainCall};
 ghost use Rattle.script.specs.Reads.{Reads, ReadsAll};
-ghost use Rattle.tokens.specs.Rest.{restOf};
+ghost use Rattle.script.specs.Rest.{restOf};
+use crate::line::Line;
 use rows::row::Placement;
 use session::calls::Call;
 use session::calls::Edit;
@@ -13,7 +14,6 @@ use tokens::expected::Expected;
 use tokens::expected::LineError;
 use tokens::expected::LineErrorFromAlloc;
 use tokens::expected::LineErrorFromExpected;
-use tokens::line::Line;
 use tokens::token::Token;
 
 // The call of a line that is not empty; where it shows no ticket, it shows one of this mark.

@@ -2,9 +2,10 @@
 ghost use mathlib.Core.Path.{_≡_};
 ghost use Rattle.tokens.specs.Lines.{tokensOf};
 ghost use Rattle.script.specs.Reads.{ReadsAll};
-ghost use Rattle.tokens.specs.Rest.{restOf};
+ghost use Rattle.script.specs.Rest.{restOf};
 ghost use Rattle.script.specs.Scripts.{finished, lineOf, mayMark, markLine, callLine, scriptOf, numbered};
 ghost use Rattle.script.specs.Whole.{plainScript, sofarOf, after, ReadsAt};
+use crate::line::Line;
 use crate::parser::call;
 use session::calls::Call;
 use std::alloc::Global;
@@ -15,7 +16,6 @@ use tokens::expected::LineErrorFromExpected;
 use tokens::expected::LineErrorFromRefused;
 use tokens::expected::ScriptError;
 use tokens::lexer::tokens;
-use tokens::line::Line;
 use tokens::token::Token;
 
 const LINE_FEED: u8 = b'\n';

@@ -1,5 +1,4 @@
-// The words of a line of a script, and what is read from them.
+// The words of a line of a script.
 pub mod expected;
 pub mod lexer;
-pub mod line;
 pub mod token;

@@ -12,9 +12,9 @@ pub returns : need.returns
 returns c =
     let bs = string-bytes (c .args .out .now) in
     let row = actorRow (c .args .actor .now) in
-    let one = c .in-Continue-push-list .ensures tt ∙ ap (λ l. bs ++ listText (codes "actor times") l) (c .times .ensures) in
-    let two = c .in-Continue-push-option .ensures tt ∙ ap (λ o. string-bytes (c .push-list .last .out) ++ optionText (codes " not-before ") o) (c .not-before .ensures) in
-    let pin = c .pin-of .ensures ∙ ap pinOf (c .placement .ensures) in
+    let one = c .in-Continue-push-list .ensures tt ∙ ap (λ l. bs ++ listText (codes "actor times") l) (c .as-slice .ensures) in
+    let two = c .in-Continue-push-option .ensures tt in
+    let pin = c .pin-of .ensures in
     let after = string-bytes (c .push-last .last .out) in
     made-weaker (c .push-last .result) (λ _. after ≡ string-bytes (c .push-option .last .out) ++ lastText (codes " pin ") (c .pin-of .result)) (λ _. after ≡ bs ++ actorText row)
     (λ _ p. three bs (listText (codes "actor times") (row .times)) (optionText (codes " not-before ") (row .notBefore)) (lastText (codes " pin ") (pinOf (row .placement)))

@@ -5,9 +5,9 @@ use Prim.Native.Nat.{_-_, _<_}
 use native.Mathlib.Omega.{arith}
 use lib.ListN.{length, getD, take, drop}
 use Rattle.std.proofs.shelf.Lists.{take-rest}
 use Rattle.tokens.specs.declared.token.Token.{Token}
 use Rattle.tokens.specs.Tokens.{same, asNumber}
-use Rattle.tokens.specs.Reading.{starts, tail, firstNumber}
+use Rattle.script.specs.Reading.{starts, tail, firstNumber}
 
 pub tail-is : (ts : List Token) → take (length ts - 1) (drop 1 ts) ≡ tail ts
 tail-is [] = refl

@@ -2,21 +2,21 @@
 ghost use mathlib.Core.Path.{_≡_};
 ghost use Rattle.std.specs.Of.Vec.{vec-items};
 ghost use Rattle.std.specs.Vec.{made};
-ghost use Rattle.tokens.specs.Reading.{starts, afterWord, thisWord, firstNumber, afterNumber, numberAfter, allNumbers, numberIf, ended, withRest};
-ghost use Rattle.tokens.specs.Rest.{restOf};
-use crate::expected::Expected;
-use crate::token::Token;
+ghost use Rattle.script.specs.Reading.{starts, afterWord, thisWord, firstNumber, afterNumber, numberAfter, allNumbers, numberIf, ended, withRest};
+ghost use Rattle.script.specs.Rest.{restOf};
 use std::alloc::AllocError;
 use std::alloc::Global;
+use tokens::expected::Expected;
+use tokens::token::Token;
 
 #[derive(Clone, Copy)]
-pub struct Line<'a> {
-    pub rest: &'a [Token],
+pub(crate) struct Line<'a> {
+    pub(crate) rest: &'a [Token],
 }
 
 impl<'a> Line<'a> {
     // Passes over the word, if it comes next.
-    pub fn accept(&mut self, keyword: Token) -> bool
+    pub(crate) fn accept(&mut self, keyword: Token) -> bool
         ensures value { λ r. ⌜ r ≡ starts keyword (restOf (now (self .entry))) ⌝ }
         ensures after { λ _. ⌜ restOf (now (self .exit)) ≡ afterWord keyword (restOf (now (self .entry))) ⌝ }
     {
@@ -29,7 +29,7 @@ impl<'a> Line<'a> {
     }
 
     // Passes over the word, which has to come next.
-    pub fn word(&mut self, keyword: Token) -> Result<(), Expected>
+    pub(crate) fn word(&mut self, keyword: Token) -> Result<(), Expected>
         ensures { λ r. ⌜ withRest r (restOf (now (self .exit))) ≡ thisWord keyword (restOf (now (self .entry))) ⌝ }
     {
         if self.accept(keyword) {
@@ -40,7 +40,7 @@ impl<'a> Line<'a> {
     }
 
     // Reads a number, if one comes next.
-    pub fn number(&mut self) -> Option<u32>
+    pub(crate) fn number(&mut self) -> Option<u32>
         ensures value { λ r. ⌜ r ≡ firstNumber (restOf (now (self .entry))) ⌝ }
         ensures after { λ _. ⌜ restOf (now (self .exit)) ≡ afterNumber (restOf (now (self .entry))) ⌝ }
     {
@@ -56,7 +56,7 @@ impl<'a> Line<'a> {
     }
 
     // Reads a number, which has to come next.
-    pub fn number_after(&mut self, keyword: Token) -> Result<u32, Expected>
+    pub(crate) fn number_after(&mut self, keyword: Token) -> Result<u32, Expected>
         ensures { λ r. ⌜ withRest r (restOf (now (self .exit))) ≡ numberAfter keyword (restOf (now (self .entry))) ⌝ }
     {
         match self.number() {
@@ -66,7 +66,7 @@ impl<'a> Line<'a> {
     }
 
     // Reads all the numbers that come next.
-    pub fn numbers(&mut self, heap: Global) -> Result<Vec<u32>, AllocError>
+    pub(crate) fn numbers(&mut self, heap: Global) -> Result<Vec<u32>, AllocError>
         ensures { λ r. ⌜ made r (λ v. (vec-items v, restOf (now (self .exit))) ≡ allNumbers (restOf (now (self .entry)))) ⌝ }
     {
         let mut all = Vec::new(heap);
@@ -77,7 +77,7 @@ impl<'a> Line<'a> {
     }
 
     // Reads a number after this word, if the word comes next.
-    pub fn number_if(&mut self, keyword: Token) -> Result<Option<u32>, Expected>
+    pub(crate) fn number_if(&mut self, keyword: Token) -> Result<Option<u32>, Expected>
         ensures { λ r. ⌜ withRest r (restOf (now (self .exit))) ≡ numberIf keyword (restOf (now (self .entry))) ⌝ }
     {
         if !self.accept(keyword) {
@@ -88,7 +88,7 @@ impl<'a> Line<'a> {
     }
 
     // No word is left.
-    pub fn end(self) -> Result<(), Expected>
+    pub(crate) fn end(self) -> Result<(), Expected>
         ensures { λ r. ⌜ r ≡ ended (restOf (self .entry)) ⌝ }
     {
         if self.rest.is_empty() {

@@ -5,9 +5,9 @@ use Prim.Native.Nat.{_<_}
 use lib.ListN.{length}
 use Rattle.std.specs.Options.{isSome}
 use Rattle.std.proofs.shelf.Tests.{cond-true}
-use Rattle.tokens.specs.Reading.{tail, firstNumber}
-use Rattle.tokens.proofs.Fronts.{tail-is, number-first}
-use Rattle.tokens.proofs.line.Line.number.Needs as need
+use Rattle.script.specs.Reading.{tail, firstNumber}
+use Rattle.script.proofs.Fronts.{tail-is, number-first}
+use Rattle.script.proofs.line.Line.number.Needs as need
 
 pub returns-then-is-some : need.returns-then-is-some
 returns-then-is-some c =

@@ -1,34 +1,15 @@
-use crate::printer::answers_text;
-use crate::printer::push_rows;
+use crate::answered;
 use script::script::parse;
-use session::outcome::Outcome;
-use session::runs::run;
 use std::alloc::Global;
 use std::test::*;
-use tokens::expected::ScriptError;
 use tokens::expected::ScriptErrorDisplay;
-use tokens::expected::ScriptErrorFromAlloc;
-
-fn outcome_of(heap: Global, text: &str) -> Result<Outcome, ScriptError> {
-    let script = parse(heap, text.as_bytes())?;
-    Ok(run(heap, script.mark, script.calls.as_slice())?)
-}
 
 // What a script prints, or why it is no script.
 fn told(heap: Global, text: &str) -> Result<String, Fail> {
-    match outcome_of(heap, text) {
-        Ok(outcome) => Ok(answers_text(heap, outcome.answers.as_slice())?),
+    match parse(heap, text.as_bytes()) {
+        Ok(script) => Ok(answered(heap, &script)?),
         Err(error) => Ok(format!(heap, "{error}")?),
     }
-}
-
-// The rows that a script leaves, after the line that opens a change.
-fn rows_after(heap: Global, text: &str) -> Result<String, Fail> {
-    let mut out = String::from_str(heap, "open\n")?;
-    if let Ok(outcome) = outcome_of(heap, text) {
-        push_rows(&mut out, outcome.session.rows())?;
-    }
-    Ok(out)
 }
 
 // Each script with what it prints.
@@ -68,10 +49,10 @@ fn scripts_print_their_answers(rt: LibcRuntime) -> Result<(), Fail> {
 
 #[test]
 fn rows_can_be_fed_back(rt: LibcRuntime) -> Result<(), Fail> {
-    let text =
-        "open\nactor times 3 1 1 not-before 5 pin 2\nactor times 4\nchannel 0 1 writes 1 0 0 reads 1 ceiling 7\n";
-    let rows = rows_after(rt.alloc(), text)?;
-    check_eq(rows.as_str(), text)?;
-    let again = rows_after(rt.alloc(), rows.as_str())?;
-    check_eq(again.as_str(), text)
+    let rows =
+        "actor times 3 1 1 not-before 5 pin 2\nactor times 4\nchannel 0 1 writes 1 0 0 reads 1 ceiling 7\n";
+    let script = format!(rt.alloc(), "open\n{rows}rows")?;
+    let text = told(rt.alloc(), script.as_str())?;
+    let printed = format!(rt.alloc(), "ok\nactor 0\nactor 1\nchannel 0\n{rows}")?;
+    check_eq(text.as_str(), printed.as_str())
 }

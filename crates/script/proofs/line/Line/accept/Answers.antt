@@ -3,9 +3,9 @@ use mathlib.Core.Path.{_≡_, sym, ap, _∙_}
 use Prim.Native.Nat.{_<_}
 use lib.ListN.{length}
 use Rattle.std.proofs.shelf.Tests.{cond-true}
-use Rattle.tokens.specs.Reading.{starts, tail}
-use Rattle.tokens.proofs.Fronts.{tail-is, starts-first}
-use Rattle.tokens.proofs.line.Line.accept.Needs as need
+use Rattle.script.specs.Reading.{starts, tail}
+use Rattle.script.proofs.Fronts.{tail-is, starts-first}
+use Rattle.script.proofs.line.Line.accept.Needs as need
 
 pub returns : need.returns
 returns c =
