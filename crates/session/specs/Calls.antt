@@ -1,5 +1,6 @@
 -- What a list of calls does to the book, and what each call is answered.
 use mathlib.Core.Path.{_≡_}
+use mathlib.Core.Bool.{Bool, true, false, not}
 use mathlib.Core.List.{List, [], _∷_}
 use Prim.Native.Nat.{ℕ}
 use Rattle.std.specs.Of.Vec.{vec-items}
@@ -11,7 +12,7 @@ use Rattle.rows.specs.declared.fault.Fault.{Fault}
 use Rattle.rows.specs.Steps.{Step, leaves}
 use Rattle.rows.specs.Table.{Table, actorWith, channelWith, addActor, addChannel, cutActor, cutChannel}
 use Rattle.table.specs.Tables.{tableOf}
-use Rattle.draft.specs.Book.{Book, opening, editing, keeping, withdrawing}
+use Rattle.draft.specs.Book.{Book, accepts, opening, editing, keeping, withdrawing}
 use Rattle.session.specs.declared.calls.Edit.{Edit}
 use Rattle.session.specs.declared.calls.Edit.the-variants.{AddActor, AddChannel, CutActor, CutChannel}
 use Rattle.session.specs.declared.calls.Ending.{Ending}
@@ -55,6 +56,13 @@ callStep Open = saying (λ _. done) opening
 callStep (EditCall shown edit) = editing shown (editStep edit)
 callStep (End shown ending) = saying (λ _. done) (endStep ending shown)
 callStep RowsCall = record { fault = λ _. None; value = λ b. rows (b .working); made = λ b. b }
+
+-- a run asks for memory to copy the rows, and to show a ticket that is not the open change's own
+abbrev pub asksMemory : Book → Call → Bool
+asksMemory b Open = false
+asksMemory b (EditCall shown edit) = not (accepts b shown)
+asksMemory b (End shown ending) = not (accepts b shown)
+asksMemory b RowsCall = true
 
 -- what a call that gives a value says
 abbrev pub collapsed : {V : Type 0} → (V → Said) → Result V Fault → Said

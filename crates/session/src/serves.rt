@@ -1,12 +1,13 @@
 // A session serves one call after the other.
 ghost use mathlib.Core.Path.{_≡_};
 ghost use mathlib.Core.Bool.{true, false};
+ghost use Rattle.std.specs.Results.{isOk};
 ghost use Rattle.std.specs.Vec.{made};
 ghost use Rattle.rows.specs.Steps.{Does};
 ghost use Rattle.table.specs.Tables.{tableOf};
 ghost use Rattle.draft.specs.Book.{newBook, accepts, opening, editing, orGivesBack};
 ghost use Rattle.draft.specs.Drafts.{bookOf};
-ghost use Rattle.session.specs.Calls.{done, rows, saidOf, saying, collapsed, editStep, endStep, callStep, Tells};
+ghost use Rattle.session.specs.Calls.{done, rows, saidOf, saying, collapsed, editStep, endStep, callStep, asksMemory, Tells};
 ghost use Rattle.session.specs.Sessions.{sessionBook, Serves};
 use crate::calls::Answer;
 use crate::calls::Call;
@@ -39,9 +40,10 @@ impl Session {
         self.draft.rows()
     }
 
-    // Serves a call. Where memory is wanting, the call is not made.
+    // Serves a call. Where memory is wanting, the call is not made; few calls ask for memory.
     pub fn serve(&mut self, heap: Global, call: &Call) -> Result<Answer, AllocError>
-        ensures { λ r. ⌜ Serves (callStep (now (call .entry))) (sessionBook (now (self .entry))) (sessionBook (now (self .exit))) r ⌝ }
+        ensures served { λ r. ⌜ Serves (callStep (now (call .entry))) (sessionBook (now (self .entry))) (sessionBook (now (self .exit))) r ⌝ }
+        ensures succeeds { λ r. ⌜ (asksMemory (sessionBook (now (self .entry))) (now (call .entry)) ≡ false → isOk r ≡ true) ⌝ }
     {
         match call {
             Call::Open => Ok(self.open()),
@@ -66,13 +68,33 @@ impl Session {
 
     // Makes an edit, shown the ticket in hand or else a stray one.
     fn edit(&mut self, heap: Global, shown: u32, edit: &Edit) -> Result<Answer, AllocError>
+        ensures served { λ r. ⌜ Serves (editing shown (editStep (now (edit .entry)))) (sessionBook (now (self .entry))) (sessionBook (now (self .exit))) r ⌝ }
+        ensures succeeds { λ r. ⌜ (accepts (sessionBook (now (self .entry))) shown ≡ true → isOk r ≡ true) ⌝ }
+    {
+        if self.would_accept(shown) {
+            return Ok(self.edit_with_own(edit));
+        }
+        self.edit_with_stray(heap, shown, edit)
+    }
+
+    fn edit_with_own(&mut self, edit: &Edit) -> Answer
+        requires { ⌜ sessionBook (now self) .changing ≡ true ⌝ }
+        ensures { λ r. ⌜ Tells (editing (sessionBook (now (self .entry)) .mark) (editStep (now (edit .entry)))) (sessionBook (now (self .entry))) (sessionBook (now (self .exit))) (saidOf r) ⌝ }
+    {
+        match &self.hand {
+            Some(ticket) => apply(&mut self.draft, ticket, edit),
+            None => unreachable(),
+        }
+    }
+
+    fn edit_with_stray(
+        &mut self,
+        heap: Global,
+        shown: u32,
+        edit: &Edit,
+    ) -> Result<Answer, AllocError>
         ensures { λ r. ⌜ Serves (editing shown (editStep (now (edit .entry)))) (sessionBook (now (self .entry))) (sessionBook (now (self .exit))) r ⌝ }
     {
-        if shown == self.draft.mark() {
-            if let Some(ticket) = &self.hand {
-                return Ok(apply(&mut self.draft, ticket, edit));
-            }
-        }
         let (other, ticket) = stray(heap, shown)?;
         let answer = apply(&mut self.draft, &ticket, edit);
         hand_in(other, ticket);
@@ -81,7 +103,8 @@ impl Session {
 
     // Ends the change with the ticket in hand, or is refused with a stray one.
     fn end(&mut self, heap: Global, shown: u32, ending: Ending) -> Result<Answer, AllocError>
-        ensures { λ r. ⌜ Serves (saying (λ _. done) (endStep ending shown)) (sessionBook (now (self .entry))) (sessionBook (now (self .exit))) r ⌝ }
+        ensures served { λ r. ⌜ Serves (saying (λ _. done) (endStep ending shown)) (sessionBook (now (self .entry))) (sessionBook (now (self .exit))) r ⌝ }
+        ensures succeeds { λ r. ⌜ (accepts (sessionBook (now (self .entry))) shown ≡ true → isOk r ≡ true) ⌝ }
     {
         if self.would_accept(shown) {
             return Ok(self.end_with_own(ending));

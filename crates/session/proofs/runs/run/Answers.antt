@@ -11,7 +11,7 @@ use Rattle.session.proofs.runs.run.Needs as need
 
 pub loop-call-again : need.loop-call-again
 loop-call-again c =
-    let tells = c .in-Continue-answer .ensures tt in
+    let tells = c .in-Continue-answer .ensures tt .served in
     let pushed = ap (map saidOf) (c .in-Continue-push .ensures tt .items) ∙ map-push saidOf _ _ in
     let i = c .loop-call .inv in (
       turn-answers _ _ _ _ (c .call-item .result) _ (c .loop-call-test .taken) (c .call-item .is) tells _ _ _ pushed (i .0),
