@@ -1,14 +1,19 @@
 -- A list of calls, one call after the other.
 use mathlib.Core.Path.{_≡_, refl, ap, sym, _∙_}
 use mathlib.Core.Bool.{Bool, true, false, cond}
-use mathlib.Core.List.{List, [], _∷_, _++_, append-assoc, append-nil}
+use mathlib.Core.List.{List, [], _∷_, _++_, map, append-assoc, append-nil}
 use Prim.Native.Nat.{ℕ, _+_, _<_, _≤_}
 use lib.ListN.{getD, drop, length}
-use Rattle.std.proofs.shelf.Lists.{at-drop-more, at-drop-all}
+use Rattle.std.proofs.shelf.Lists.{at-drop-more, at-drop-all, map-push}
 use Rattle.rows.specs.Table.{Table, lawful}
 use Rattle.draft.specs.Book.{Book}
+use Rattle.session.specs.declared.calls.Answer.{Answer}
 use Rattle.session.specs.declared.calls.Call.{Call}
-use Rattle.session.specs.Calls.{Said, Tells, callStep, says, next, answers, bookAfter}
+use Rattle.session.specs.Calls.{Said, saidOf, Tells, callStep, says, next, answers, bookAfter}
+
+-- one more answer, as it is told
+pub told-more : (xs ys : List Answer) (a : Answer) → ys ≡ xs ++ a ∷ [] → map saidOf ys ≡ map saidOf xs ++ saidOf a ∷ []
+told-more xs ys a e = ap (map saidOf) e ∙ map-push saidOf xs a
 
 -- one turn of a run: the book was b and is n, and the call was answered by said
 module _ (b n : Book) (calls : List Call) (i : ℕ) (call : Call) (said : Said) (h : i < length calls) (here : call ≡ getD calls i call)
