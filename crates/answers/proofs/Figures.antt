@@ -6,7 +6,7 @@ use Rattle.std.specs.List.{flat_map}
 use Rattle.std.specs.Str.{all_ascii_digits}
 use Rattle.std.proofs.lemmas.Str.Parse.{IsNumeralModel, numerals_by_value, tells_all_ascii_digits}
 use Rattle.std.proofs.lemmas.Fmt.{digits_decimal, digits_value-decimal, decimal_nonempty}
-use Rattle.std.proofs.lemmas.Bool.{and_parts, and_from, not_from_false, leb-true, ltb_true, lt_ltb, ne_eqb, or_from, cond-true}
+use Rattle.std.proofs.lemmas.Bool.{and_parts, and_from, not_from_false, leb-true, ltb-true, lt-ltb, ne_eqb, or_from, cond-true}
 use Rattle.tokens.specs.declared.token.Token.{Token}
 use Rattle.tokens.specs.declared.token.Token.TheVariants.{Number}
 use Rattle.tokens.specs.Tokens.{token_of, call_word, numeral, number_or}
@@ -43,7 +43,7 @@ letters_word (b ∷ w) h k = k
 
 module _ (n : ℕ) (s : small n ≡ true) where
   fits : n < 2 ^ 64
-  fits = let h = ltb_true n 4294967296 s in omega arith
+  fits = let h = ltb-true n 4294967296 s in omega arith
 
   pub figures_word : wordly (decimal n) ≡ true
   figures_word = letters_word (decimal n) (decimal_nonempty n fits) (digits_letters (decimal n) (digits_decimal own n fits))
@@ -54,7 +54,7 @@ module _ (n : ℕ) (s : small n ≡ true) where
       let below : ltb (digits_value 10 (decimal n)) 4294967296 ≡ true = ap (λ k. ltb k 4294967296) v ∙ s in
       let some : numeral (decimal n) ≡ Some (digits_value 10 (decimal n)) =
       cond-true _ (Some (digits_value 10 (decimal n))) None
-      (and_from _ _ (lt_ltb 0 (length (decimal n)) (decimal_nonempty n fits)) (and_from _ _ (digits_decimal own n fits) below)) in
+      (and_from _ _ (lt-ltb 0 (length (decimal n)) (decimal_nonempty n fits)) (and_from _ _ (digits_decimal own n fits) below)) in
       ap (λ o. number_or o (call_word (decimal n))) (some ∙ ap (λ k. Some k) v)
 
 -- the same of a list

@@ -1,7 +1,7 @@
 -- The printed rows of a lawful table, read as a script, add each row.
 use Rattle.std.proofs.Common.{◌≡◌, ℕ, ◌+◌, ◌<◌, ◌≤◌, Bool, true, false, ◌&&◌, eqb, ltb, leb, List, [], ◌∷◌, ◌++◌, map, length, Some, None, Ok, Option, Result, sym, refl, ap, ◌∙◌, append_assoc, append-nil, arith}
 use Rattle.std.specs.List.{flat_map}
-use Rattle.std.proofs.lemmas.Bool.{and_parts, and_from, leb-true, lt_ltb, ne_eqb, cond-false}
+use Rattle.std.proofs.lemmas.Bool.{and_parts, and_from, leb-true, lt-ltb, ne_eqb, cond-false}
 use Rattle.rows.specs.declared.fault.Fault.TheVariants.{PhaseCount, TimeRange, NotBeforeRange, PinRange}
 use Rattle.rows.specs.declared.row.Placement.{Placement}
 use Rattle.rows.specs.declared.row.Placement.TheVariants.{Free, Pinned}
@@ -24,7 +24,7 @@ use Rattle.answers.proofs.RowLines.{small_if, SmallActor, SmallChannel, actor_li
 -- the numbers of an accepted row are small
 
 under : (n high : ℕ) → leb n high ≡ true → high < 4294967296 → small n ≡ true
-under n high h k = let l = leb-true n high h in lt_ltb n 4294967296 (omega arith)
+under n high h k = let l = leb-true n high h in lt-ltb n 4294967296 (omega arith)
 
 within_small : (low high n : ℕ) → high < 4294967296 → within low high n ≡ true → small n ≡ true
 within_small low high n k h = under n high (and_parts (leb low n) (leb n high) h).1 k
@@ -65,8 +65,8 @@ channel_small rows c few h =
     let w = ok.writer_is in
     let r = ok.reader_is in
     record {
-      writer = lt_ltb c.writer 4294967296 (omega arith);
-      reader = lt_ltb c.reader 4294967296 (omega arith);
+      writer = lt-ltb c.writer 4294967296 (omega arith);
+      reader = lt-ltb c.reader 4294967296 (omega arith);
       writes = every_small 0 255 c.writes (omega arith) (and_parts _ _ rates.0).0;
       reads = every_small 0 255 c.reads (omega arith) (and_parts _ _ rates.1).0;
       ceiling = given_small 1 65535 c.ceiling (omega arith) ok.capped;

@@ -1,7 +1,7 @@
 -- Words with a space before each: the tokens that they are read as, and that they stay on one line.
 use Rattle.std.proofs.Common.{◌≡◌, ℕ, ◌<◌, Bool, true, false, cond, not, ◌&&◌, eqb, List, [], ◌∷◌, ◌++◌, map, length, sym, refl, ap, ◌∙◌, append_assoc, append-nil, arith}
 use Rattle.std.specs.List.{flat_map}
-use Rattle.std.proofs.lemmas.Bool.{and_parts, and_from, not_true, not_from_false, cond-false}
+use Rattle.std.proofs.lemmas.Bool.{and_parts, and_from, not-true, not_from_false, cond-false}
 use Rattle.tokens.specs.declared.token.Token.{Token}
 use Rattle.tokens.specs.Tokens.{token_of}
 use Rattle.tokens.specs.Lines.{blank, with_word, tokens_from, tokens_of, lines_from}
@@ -36,7 +36,7 @@ word_read [] before begun rest h = ap (λ l. tokens_from before l rest) (sym (ap
 word_read (b ∷ w) before begun rest h =
     let p = and_parts (letter b) (letters w) h in
     let q = and_parts (not (eqb b 35)) (not (blank b)) (and_parts (not (eqb b 10)) (not (eqb b 35) && not (blank b)) p.0).1 in
-    cond-false (eqb b 35) _ _ (not_true (eqb b 35) q.0) ∙ cond-false (blank b) _ _ (not_true (blank b) q.1)
+    cond-false (eqb b 35) _ _ (not-true (eqb b 35) q.0) ∙ cond-false (blank b) _ _ (not-true (blank b) q.1)
     ∙ word_read w before (begun ++ b ∷ []) rest p.1 ∙ ap (λ l. tokens_from before l rest) (append_assoc begun (b ∷ []) w)
 
 with_word_lem : (w : List ℕ) (before : List Token) → wordly w ≡ true → with_word before w ≡ before ++ token_of w ∷ []
@@ -83,7 +83,7 @@ flat_read : (l begun rest : List ℕ) → flat l ≡ true → lines_from begun (
 flat_read [] begun rest h = ap (λ k. lines_from k rest) (sym (append-nil begun))
 flat_read (b ∷ l) begun rest h =
     let p = and_parts (not (eqb b 10)) (flat l) h in
-    cond-false (eqb b 10) _ _ (not_true (eqb b 10) p.0) ∙ flat_read l (begun ++ b ∷ []) rest p.1
+    cond-false (eqb b 10) _ _ (not-true (eqb b 10) p.0) ∙ flat_read l (begun ++ b ∷ []) rest p.1
     ∙ ap (λ k. lines_from k rest) (append_assoc begun (b ∷ []) l)
 
 -- a line of words ends at the line feed that follows it

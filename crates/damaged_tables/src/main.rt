@@ -1,5 +1,8 @@
 // Loads a table of words damaged in every way, a word at a time, and prints each answer as `number@place`: the refusal,
 // or 0 and the number of words where the load is granted.
+
+#![tactic(auto)]
+
 ghost use Rattle.std.specs.Prelude.{◌≡◌, length};
 ghost use Rattle.words.specs.Loads.{table_read};
 ghost use Rattle.damaged_tables.specs.Told.{told_of};

@@ -1,4 +1,7 @@
 // Edits a draft by hand: each change is kept where its edits are accepted, and withdrawn where one is refused.
+
+#![tactic(auto)]
+
 ghost use Rattle.std.specs.Prelude.{◌≡◌, true, None, MatchResult};
 ghost use Rattle.rows.specs.Table.{actor_with, add_actor};
 ghost use Rattle.rows.specs.declared.row.Placement.TheVariants.{Free};

@@ -1,4 +1,7 @@
 // Runs a script of calls from standard input on a new draft, and prints each answer.
+
+#![tactic(auto)]
+
 ghost use Rattle.std.specs.Prelude.{◌≡◌, IfOk, string_bytes};
 ghost use Rattle.std.specs.List.{flat_map};
 ghost use Rattle.draft.specs.Book.{new_book};

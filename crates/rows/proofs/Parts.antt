@@ -1,6 +1,6 @@
 -- The parts of a chain of checks, and of a channel that the checks accept.
 use Rattle.std.proofs.Common.{◌≡◌, ℕ, zero, suc, ◌<◌, ◌≤◌, Bool, true, false, ◌&&◌, eqb, ltb, leb, List, [], ◌∷◌, map, length, Some, None, Option, sym, refl, ap, ◌∙◌, arith}
-use Rattle.std.proofs.lemmas.Bool.{and_parts, and_from, not_true, not_from_false, ltb_true, leb-true, lt_ltb, eqb-true, eqb-false, ne_eqb, cond-true, cond-false}
+use Rattle.std.proofs.lemmas.Bool.{and_parts, and_from, not-true, not_from_false, ltb-true, leb-true, lt-ltb, eqb-true, eqb-false, ne_eqb, cond-true, cond-false}
 use Rattle.rows.specs.declared.fault.Fault.{Fault}
 use Rattle.rows.specs.declared.fault.Fault.TheVariants.{PhaseCount, NoActor, SameActor, RateCount, RateRange, CeilingRange}
 use Rattle.rows.specs.declared.row.Actor.{Actor}
@@ -62,9 +62,9 @@ module _ (rows : List ActorRow) (c : ChannelRow) where
       let t = check_parts _ CeilingRange _ s.1 in
       let w = and_parts _ _ p.0 in
       record {
-        writer_is = ltb_true c.writer (length rows) w.0;
-        reader_is = ltb_true c.reader (length rows) w.1;
-        apart = eqb-false c.writer c.reader (not_true _ q.0);
+        writer_is = ltb-true c.writer (length rows) w.0;
+        reader_is = ltb-true c.reader (length rows) w.1;
+        apart = eqb-false c.writer c.reader (not-true _ q.0);
         counted = r.0;
         rated = s.0;
         capped = t.0;
@@ -72,7 +72,7 @@ module _ (rows : List ActorRow) (c : ChannelRow) where
 
   pub accepts : Accepted rows c → channel_fault rows c ≡ None
   accepts a =
-      check_from _ NoActor _ (and_from _ _ (lt_ltb c.writer (length rows) a.writer_is) (lt_ltb c.reader (length rows) a.reader_is))
+      check_from _ NoActor _ (and_from _ _ (lt-ltb c.writer (length rows) a.writer_is) (lt-ltb c.reader (length rows) a.reader_is))
       (check_from _ SameActor _ (not_from_false _ (ne_eqb c.writer c.reader a.apart))
       (check_from _ RateCount _ a.counted
       (check_from _ RateRange _ a.rated

@@ -1,4 +1,7 @@
 // Lists of calls on a draft: the calls, what each is answered, and a run of a whole list.
+
+#![tactic(auto)]
+
 pub mod calls;
 pub mod outcome;
 pub mod runs;

@@ -3,7 +3,7 @@ use Rattle.std.proofs.Common.{◌≡◌, ℕ, zero, suc, ◌+◌, ◌-◌, ◌<�
 use Rattle.std.specs.List.{remove}
 use Rattle.std.proofs.lemmas.List.{length_push, length-map}
 use Rattle.std.proofs.lemmas.List.Edits.{length-remove}
-use Rattle.std.proofs.lemmas.Bool.{and_parts, and_from, or_parts, not_true, ltb_true, leb-true, lt_ltb, le-ltb, le-leb, eqb-false, cases_lt, cond-true, cond-false}
+use Rattle.std.proofs.lemmas.Bool.{and_parts, and_from, or_parts, not-true, ltb-true, leb-true, lt-ltb, le-ltb, le-leb, eqb-false, cases_lt, cond-true, cond-false}
 use Rattle.rows.specs.declared.fault.Fault.TheVariants.{TableFull, NoActor, NoChannel, ActorInUse}
 use Rattle.rows.specs.Table.{ActorRow, ChannelRow, Table, every, phases_at, check, passes, actor_fault, channel_fault, lawful, add_actor, add_channel, cut_channel, names, renumbered, renumbered_ends, cut_actor}
 use Rattle.rows.proofs.Parts.{check_parts, passes_none, none_passes, Accepted, accepted, accepts}
@@ -91,7 +91,7 @@ module _ (gone i : ℕ) where
   renumbered_before h = cond-false (ltb gone i) (i - 1) i (le-ltb gone i h)
 
   pub renumbered_after : gone < i → renumbered gone i ≡ i - 1
-  renumbered_after h = cond-true (ltb gone i) (i - 1) i (lt_ltb gone i h)
+  renumbered_after h = cond-true (ltb gone i) (i - 1) i (lt-ltb gone i h)
 
   pub renumbered_below : (n : ℕ) → gone < n → i < n → (i ≡ gone → ⊥) → renumbered gone i < n - 1
   renumbered_below n g h ne =
@@ -160,7 +160,7 @@ module _ (t : Table) (l : lawful t ≡ true) where
   pub lawful_with_actor : (a : ActorRow) → (add_actor a).fault t ≡ None → lawful ((add_actor a).made t) ≡ true
   lawful_with_actor a e =
       let p = check_parts (ltb (length t.actors) 64) TableFull (actor_fault a) e in
-      let few = ltb_true (length t.actors) 64 p.0 in
+      let few = ltb-true (length t.actors) 64 p.0 in
       let n = length_push t.actors a in
       lawful_from ((add_actor a).made t)
       record {
@@ -178,7 +178,7 @@ module _ (t : Table) (l : lawful t ≡ true) where
   pub lawful_with_channel : (c : ChannelRow) → (add_channel c).fault t ≡ None → lawful ((add_channel c).made t) ≡ true
   lawful_with_channel c e =
       let p = check_parts (ltb (length t.channels) 128) TableFull (channel_fault t.actors c) e in
-      let few = ltb_true (length t.channels) 128 p.0 in
+      let few = ltb-true (length t.channels) 128 p.0 in
       let n = length_push t.channels c in
       lawful_from ((add_channel c).made t)
       record {
@@ -191,7 +191,7 @@ module _ (t : Table) (l : lawful t ≡ true) where
 
   pub lawful_without_channel : (i : ℕ) → (cut_channel i).fault t ≡ None → lawful ((cut_channel i).made t) ≡ true
   lawful_without_channel i e =
-      let h = ltb_true i (length t.channels) (check_parts (ltb i (length t.channels)) NoChannel None e).0 in
+      let h = ltb-true i (length t.channels) (check_parts (ltb i (length t.channels)) NoChannel None e).0 in
       let n = length-remove t.channels i h in
       let f = was.few_channels in
       lawful_from ((cut_channel i).made t)
@@ -206,7 +206,7 @@ module _ (t : Table) (l : lawful t ≡ true) where
   lawful_without_actor i e =
       let p = check_parts (ltb i (length t.actors)) NoActor (check (every (λ c. not (names i c)) t.channels) ActorInUse None) e in
       let q = check_parts (every (λ c. not (names i c)) t.channels) ActorInUse None p.1 in
-      let h = ltb_true i (length t.actors) p.0 in
+      let h = ltb-true i (length t.actors) p.0 in
       let n = length-remove t.actors i h in
       let m = length-map t.channels (renumbered_ends i) in
       let f = was.few_actors in
@@ -221,6 +221,6 @@ module _ (t : Table) (l : lawful t ≡ true) where
             (λ c k o.
             none_passes (channel_fault (remove t.actors i) (renumbered_ends i c))
             (accepts (remove t.actors i) (renumbered_ends i c)
-            (accepted_without_actor t.actors i c h (accepted t.actors c (passes_none (channel_fault t.actors c) k)) (not_true (names i c) o))))
+            (accepted_without_actor t.actors i c h (accepted t.actors c (passes_none (channel_fault t.actors c) k)) (not-true (names i c) o))))
             t.channels was.good_channels q.0;
       }

@@ -3,7 +3,7 @@ use Rattle.std.proofs.Common.{◌≡◌, ℕ, zero, suc, ◌+◌, ◌<◌, ◌�
 use Rattle.std.specs.List.{remove}
 use Rattle.std.proofs.lemmas.List.{length-map, map_push, map-set, get_or-map, take_all, drop_all}
 use Rattle.std.proofs.lemmas.List.Edits.{map_over_more}
-use Rattle.std.proofs.lemmas.Bool.{lt_ltb, le-ltb}
+use Rattle.std.proofs.lemmas.Bool.{lt-ltb, le-ltb}
 use Rattle.rows.specs.declared.row.Actor.{Actor}
 use Rattle.rows.specs.declared.row.Channel.{Channel}
 use Rattle.rows.specs.Table.{ActorRow, ChannelRow, Table, lawful, renumbered_ends, add_actor, add_channel, cut_actor, cut_channel}
@@ -19,13 +19,13 @@ map_removed f (x ∷ xs) (suc i) = ap (λ l. f x ∷ l) (map_removed f xs i)
 -- tests of the number of rows, from the number of elements
 module _ {X Y : Type 0} (row : X → Y) (xs : List X) (n : ℕ) (long : n ≡ length xs) where
   pub fewer : (k : ℕ) → n < k → ltb (length (map row xs)) k ≡ true
-  fewer k h = let l = length-map xs row in lt_ltb (length (map row xs)) k (omega arith)
+  fewer k h = let l = length-map xs row in lt-ltb (length (map row xs)) k (omega arith)
 
   pub not_fewer : (k : ℕ) → k ≤ n → ltb (length (map row xs)) k ≡ false
   not_fewer k h = let l = length-map xs row in le-ltb (length (map row xs)) k (omega arith)
 
   pub there : (i : ℕ) → i < n → ltb i (length (map row xs)) ≡ true
-  there i h = let l = length-map xs row in lt_ltb i (length (map row xs)) (omega arith)
+  there i h = let l = length-map xs row in lt-ltb i (length (map row xs)) (omega arith)
 
   pub not_there : (i : ℕ) → n ≤ i → ltb i (length (map row xs)) ≡ false
   not_there i h = let l = length-map xs row in le-ltb i (length (map row xs)) (omega arith)

@@ -1,4 +1,7 @@
 // A dataflow table: its rows, read by number and edited.
+
+#![tactic(auto)]
+
 pub mod edits;
 pub mod reads;
 pub mod rows;

@@ -3,7 +3,7 @@ use Rattle.std.proofs.Common.{◌≡◌, ℕ, ◌+◌, ◌-◌, ◌*◌, ◌<◌
 use Rattle.std.specs.Str.Parse.{digits_value_after}
 use Rattle.std.specs.Char.{is_ascii_digit, digit_value as digitValue}
 use Rattle.std.specs.Str.{all_ascii_digits}
-use Rattle.std.proofs.lemmas.Bool.{cases_Bool, cond-true, cond-false, and_from, and_left, and_right, and_parts, leb-true, lt_ltb, le-ltb, ltb_true, ltb-false}
+use Rattle.std.proofs.lemmas.Bool.{cases_Bool, cond-true, cond-false, and_from, and_left, and_right, and_parts, leb-true, lt-ltb, le-ltb, ltb-true, ltb-false}
 use Rattle.tokens.specs.Tokens.{numeral, with_digit}
 
 -- the number that n and the digits that follow it write
@@ -26,10 +26,10 @@ digit_value c d =
     let p = and_parts (leb 48 c) (leb c 57) d in
     let a = leb-true 48 c p.0 in
     let b = leb-true c 57 p.1 in
-    cond-false (ltb c 48) 36 _ (le-ltb c 48 a) ∙ cond-true (ltb c 58) (c - 48) _ (lt_ltb c 58 (omega arith))
+    cond-false (ltb c 48) 36 _ (le-ltb c 48 a) ∙ cond-true (ltb c 58) (c - 48) _ (lt-ltb c 58 (omega arith))
 
 pub read_from : (w : List ℕ) (n : ℕ) → n < 4294967296 → numeral_from n w ≡ below (all_ascii_digits w) (digits_value_after 10 n w)
-read_from [] n h = sym (cond-true (ltb n 4294967296) (Some n) None (lt_ltb n 4294967296 h))
+read_from [] n h = sym (cond-true (ltb n 4294967296) (Some n) None (lt-ltb n 4294967296 h))
 read_from (c ∷ cs) n h =
     let m = n * 10 + (c - 48) in
     let v = digits_value_after 10 (n * 10 + digitValue c) cs in
@@ -41,7 +41,7 @@ read_from (c ∷ cs) n h =
     ⊎_elim
     (λ (l : fits ≡ true).
     let went : numeral_from n (c ∷ cs) ≡ numeral_from m cs = ap (goes_on cs) (cond-true (is_ascii_digit c && fits) (Some m) None (and_from _ _ d l)) in
-    let small : m < 4294967296 = ltb_true m 4294967296 l in
+    let small : m < 4294967296 = ltb-true m 4294967296 l in
     went ∙ read_from cs m small ∙ ap (λ a. below a (digits_value_after 10 m cs)) (sym digits) ∙ ap (below (all_ascii_digits (c ∷ cs))) (sym val))
     (λ (l : fits ≡ false).
     let stopped : numeral_from n (c ∷ cs) ≡ None = ap (goes_on cs) (cond-false (is_ascii_digit c && fits) (Some m) None (and_right _ _ l)) in
@@ -54,4 +54,4 @@ read_from (c ∷ cs) n h =
     (cases_Bool (is_ascii_digit c))
 
 pub read_all : (w : List ℕ) → 0 < length w → numeral_from 0 w ≡ numeral w
-read_all w h = read_from w 0 (omega arith) ∙ ap (λ b. cond (b && (all_ascii_digits w && ltb (digits_value_after 10 0 w) 4294967296)) (Some (digits_value_after 10 0 w)) None) (sym (lt_ltb 0 (length w) h))
+read_all w h = read_from w 0 (omega arith) ∙ ap (λ b. cond (b && (all_ascii_digits w && ltb (digits_value_after 10 0 w) 4294967296)) (Some (digits_value_after 10 0 w)) None) (sym (lt-ltb 0 (length w) h))

@@ -1,4 +1,7 @@
 // The words of a line of a script.
+
+#![tactic(auto)]
+
 pub mod expected;
 pub mod lexer;
 pub mod token;

@@ -2,7 +2,7 @@
 use Rattle.std.proofs.Common.{◌≡◌, ℕ, zero, suc, ◌+◌, ◌-◌, ◌<◌, ◌≤◌, Bool, cond, not, ◌&&◌, ltb, List, [], ◌∷◌, length, take, drop, is_some, Some, None, Ok, Option, sym, refl, ap, ◌∙◌, arith}
 use Rattle.std.specs.List.{between}
 use Rattle.std.proofs.lemmas.List.{take-take, drop-take}
-use Rattle.std.proofs.lemmas.Bool.{and_from, not_from_false, lt_ltb}
+use Rattle.std.proofs.lemmas.Bool.{and_from, not_from_false, lt-ltb}
 use Rattle.rows.specs.Steps.{answer}
 use Rattle.rows.specs.Table.{at}
 use Rattle.words.specs.Checks.{check}
@@ -73,7 +73,7 @@ module _ (n : ℕ) (ws vs : List ℕ) (alike : take n ws ≡ take n vs) where
       headed_by_lem b vs h w (sym (at_alike h (omega arith)) ∙ r.stands) 1 r.kind
       ∙ accepted (check (not b && ltb c 256) (Misplaced h) (numbers_fault vs (suc h) c)) actor_part (between h (past vs (past vs j 4) 5) vs) part
       (check_from (not b && ltb c 256) (Misplaced h) (numbers_fault vs (suc h) c)
-      (and_from (not b) (ltb c 256) (not_from_false b r.first) (lt_ltb c 256 r.few)) (sym none ∙ r.numbers))
+      (and_from (not b) (ltb c 256) (not_from_false b r.first) (lt-ltb c 256 r.few)) (sym none ∙ r.numbers))
       (sym same ∙ r.is)
 
   pub channel_alike : (b : Bool) (h : ℕ) (part : List ℕ) → ChannelRead ws h part → h + length part < n → record_at b vs h ≡ Ok (channel_part part)
@@ -94,5 +94,5 @@ module _ (n : ℕ) (ws vs : List ℕ) (alike : take n ws ≡ take n vs) where
       let none = numbers_alike (suc h) m (omega arith) in
       headed_by_lem b vs h w (sym (at_alike h (omega arith)) ∙ r.stands) 2 r.kind
       ∙ accepted (check (ltb c 16777216) (Misplaced h) (numbers_fault vs (suc h) m)) channel_part (between h (past vs j 6) vs) part
-      (check_from (ltb c 16777216) (Misplaced h) (numbers_fault vs (suc h) m) (lt_ltb c 16777216 r.few) (sym none ∙ r.numbers))
+      (check_from (ltb c 16777216) (Misplaced h) (numbers_fault vs (suc h) m) (lt-ltb c 16777216 r.few) (sym none ∙ r.numbers))
       (sym same ∙ r.is)

@@ -1,6 +1,6 @@
 -- Why there is no record at a place: its head is wrong, or one of its numbers.
 use Rattle.std.proofs.Common.{◌≡◌, ℕ, zero, suc, ◌+◌, ◌<◌, Bool, true, false, cond, not, ◌&&◌, eqb, ltb, ◌⊎◌, List, length, Some, None, Err, Option, refl, ◌∙◌, subst, inl, inr, ⊎_elim, arith}
-use Rattle.std.proofs.lemmas.Bool.{and_parts, not_true, ltb_true, eqb-true, eqb-false}
+use Rattle.std.proofs.lemmas.Bool.{and_parts, not-true, ltb-true, eqb-true, eqb-false}
 use Rattle.rows.specs.Steps.{answer}
 use Rattle.rows.specs.Table.{at}
 use Rattle.words.specs.Checks.{check}
@@ -83,14 +83,14 @@ module _ (b : Bool) (ws : List ℕ) (h w : ℕ) (stands : at ws h ≡ Some w) (f
   faulty_actor k e =
       let n = content_of w in
       ⊎_elim (λ c. wrong_actor w stands k c.0 c.1)
-      (λ c. let p = and_parts (not b) (ltb n 256) c.0 in in_actor w stands k (not_true b p.0) (ltb_true n 256 p.1) (short ws n (suc h) f c.1))
+      (λ c. let p = and_parts (not b) (ltb n 256) c.0 in in_actor w stands k (not-true b p.0) (ltb-true n 256 p.1) (short ws n (suc h) f c.1))
       (check_cases _ (Misplaced h) _ f (answer_err _ _ f e))
 
   faulty_channel : kind_of w ≡ 2 → channel_at ws h (content_of w) ≡ Err f → Faulty b ws h f
   faulty_channel k e =
       let n = content_of w in
       ⊎_elim (λ c. wrong_channel w stands k c.0 c.1)
-      (λ c. in_channel w stands k (ltb_true n 16777216 c.0) (short ws (writes_in n + reads_in n) (suc h) f c.1))
+      (λ c. in_channel w stands k (ltb-true n 16777216 c.0) (short ws (writes_in n + reads_in n) (suc h) f c.1))
       (check_cases _ (Misplaced h) _ f (answer_err _ _ f e))
 
   faulty_end : kind_of w ≡ 7 → end_at ws h (content_of w) ≡ Err f → Faulty b ws h f

@@ -1,7 +1,7 @@
 -- A fault of a word: the first that offends, or one that is missing.
 use Rattle.std.proofs.Common.{◌≡◌, ℕ, zero, suc, ◌+◌, ◌<◌, ◌≤◌, Bool, true, false, not, ◌&&◌, eqb, ltb, List, [], ◌∷◌, ◌++◌, length, get_or, take, drop, Some, None, Err, Option, sym, refl, ap, ◌∙◌, subst, append_assoc, append-nil, arith}
 use Rattle.std.proofs.lemmas.List.{length-take-le, take_all, take_at, drop_at}
-use Rattle.std.proofs.lemmas.Bool.{and_from, not_from_false, lt_ltb, eq-eqb, ne_eqb, cond-true, cond-false}
+use Rattle.std.proofs.lemmas.Bool.{and_from, not_from_false, lt-ltb, eq-eqb, ne_eqb, cond-true, cond-false}
 use Rattle.rows.specs.Steps.{answer}
 use Rattle.rows.specs.Table.{Table, at, within}
 use Rattle.words.specs.Checks.{check}
@@ -195,14 +195,14 @@ module _ (ws : List ℕ) (h : ℕ) (t : Table) (s : Sofar ws h t) (r : Reached w
   word_refused f (in_actor w a k early few short) =
       let n = content_of w in
       number_refused w a n
-      (λ vs d g e. actor_fault_lem w k vs d g (cond-true _ _ _ (and_from (not b) (ltb n 256) (not_from_false b early) (lt_ltb n 256 few)) ∙ e))
+      (λ vs d g e. actor_fault_lem w k vs d g (cond-true _ _ _ (and_from (not b) (ltb n 256) (not_from_false b early) (lt-ltb n 256 few)) ∙ e))
       short.before short.fewer short.numbers (actor_under_way ws h t s w a short.before short.numbers k early few short.fewer) f short.stops
   word_refused f (wrong_channel w a k c e) =
       subst (WordRefused ws) (sym e)
       (head_misplaced w 2 a k refl (omega arith) (λ vs d. channel_fault_lem w k vs d (Misplaced h) (sym (check_failed _ (Misplaced h) _ c))))
   word_refused f (in_channel w a k low short) =
       let n = writes_in (content_of w) + reads_in (content_of w) in
-      number_refused w a n (λ vs d g e. channel_fault_lem w k vs d g (cond-true _ _ _ (lt_ltb (content_of w) 16777216 low) ∙ e))
+      number_refused w a n (λ vs d g e. channel_fault_lem w k vs d g (cond-true _ _ _ (lt-ltb (content_of w) 16777216 low) ∙ e))
       short.before short.fewer short.numbers (channel_under_way ws h t s w a short.before short.numbers k low short.fewer) f short.stops
   word_refused f (wrong_end w a k c e) =
       subst (WordRefused ws) (sym e)

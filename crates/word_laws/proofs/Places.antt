@@ -2,7 +2,7 @@
 use Rattle.std.proofs.Common.{◌≡◌, ℕ, zero, suc, ◌+◌, ◌-◌, Bool, true, false, cond, eqb, List, [], ◌∷◌, ◌++◌, map, length, take, drop, is_some, Some, None, Option, sym, refl, ap, ◌∙◌, subst, arith, drop-drop, take_at, drop_at}
 use Rattle.std.specs.List.{between}
 use Rattle.std.proofs.lemmas.List.{length-map}
-use Rattle.std.proofs.lemmas.Bool.{and_parts, and_from, ltb_true, lt_ltb, eqb-true, eq-eqb, cond-true, cond-false}
+use Rattle.std.proofs.lemmas.Bool.{and_parts, and_from, ltb-true, lt-ltb, eqb-true, eq-eqb, cond-true, cond-false}
 use Rattle.rows.specs.Table.{at, every}
 use Rattle.words.specs.Checks.{check}
 use Rattle.words.proofs.Checks.{check_parts}
@@ -50,13 +50,13 @@ module _ {X : Type 0} where
 -- contents that fit their bits
 
 pub small_content : (w : ℕ) → small (content_of w) ≡ true
-small_content w = lt_ltb (content_of w) 268435456 (content_small w)
+small_content w = lt-ltb (content_of w) 268435456 (content_small w)
 
 pub kind_read : (k c : ℕ) → small c ≡ true → kind_of (word_of k c) ≡ k
-kind_read k c s = kind_of_word k c (ltb_true c 268435456 s)
+kind_read k c s = kind_of_word k c (ltb-true c 268435456 s)
 
 pub content_read : (k c : ℕ) → small c ≡ true → content_of (word_of k c) ≡ c
-content_read k c s = content_of_word k c (ltb_true c 268435456 s)
+content_read k c s = content_of_word k c (ltb-true c 268435456 s)
 
 pub contents_read : (k : ℕ) (ns : List ℕ) → every small ns ≡ true → map content_of (map (word_of k) ns) ≡ ns
 contents_read k [] s = refl

@@ -2,7 +2,7 @@
 use Rattle.std.proofs.Common.{◌≡◌, ℕ, suc, ◌+◌, ◌<◌, ◌≤◌, Bool, true, false, eqb, List, [], ◌∷◌, ◌++◌, length, take, drop, Some, None, Ok, Err, sym, refl, ap, ◌∙◌, subst, append_assoc, arith, length-append}
 use Rattle.std.specs.List.{flat_map, AllByRecursion as All, between}
 use Rattle.std.proofs.lemmas.List.{take_all, take_at}
-use Rattle.std.proofs.lemmas.Bool.{lt_ltb, eq-eqb, ne_eqb, cond-true}
+use Rattle.std.proofs.lemmas.Bool.{lt-ltb, eq-eqb, ne_eqb, cond-true}
 use Rattle.rows.specs.Steps.{answer}
 use Rattle.rows.specs.Table.{ActorRow, ChannelRow, Table}
 use Rattle.words.specs.Checks.{check}
@@ -75,7 +75,7 @@ actors_over (a ∷ rows) more f o =
     let few = f.0.few in
     let n = length a.times in
     let low : n < 268435456 = omega arith in
-    over_head 1 n _ (lt_ltb n 268435456 low) refl refl refl
+    over_head 1 n _ (lt-ltb n 268435456 low) refl refl refl
 
 channels_over : (cs : List ChannelRow) (more : List ℕ) → All ChannelFits cs → Over more → Over (flat_map channel_words cs ++ more)
 channels_over [] more f o = o
@@ -120,7 +120,7 @@ table_ends t s =
     let z = length (row_words t) in
     let n = length-append x y in
     let z_is : z ≡ 0 + length x + length y = omega arith in
-    actors_end (table_words t) z (lt_ltb z 268435456 s.few_words) 0 t.actors t.channels s.actors_fit s.channels_fit
+    actors_end (table_words t) z (lt-ltb z 268435456 s.few_words) 0 t.actors t.channels s.actors_fit s.channels_fit
     (append_assoc x y (end_words z)) z_is
 
 -- no table has words that are alike to these up to a place after h, and a fault at h

@@ -3,7 +3,7 @@ use Rattle.std.proofs.Common.{◌≡◌, ℕ, zero, suc, ◌+◌, ◌-◌, ◌<�
 use lib.Seq.{append_snoc}
 use Rattle.std.specs.List.{flat_map}
 use Rattle.std.proofs.lemmas.List.{flat_map_more, nil_from_length}
-use Rattle.std.proofs.lemmas.Bool.{and_parts, not-false, eqb-true, lt_ltb}
+use Rattle.std.proofs.lemmas.Bool.{and_parts, not-false, eqb-true, lt-ltb}
 use Rattle.rows.specs.declared.fault.Fault.{Fault}
 use Rattle.rows.specs.declared.fault.Fault.TheVariants.{TableFull}
 use Rattle.rows.specs.Table.{ActorRow, ChannelRow, Table, empty_table, every, actor_fault, channel_fault, lawful, add_actor, add_channel}
@@ -160,7 +160,7 @@ actors_over (a ∷ rows) more e o =
     let n = length a.times in
     let few = (actor_fits a (passes_none (actor_fault a) (and_parts (good_actor a) (every good_actor rows) e).0)).few in
     let low : n < 268435456 = omega arith in
-    over_head 1 n _ (lt_ltb n 268435456 low) refl refl refl
+    over_head 1 n _ (lt-ltb n 268435456 low) refl refl refl
 
 module _ (rows : List ActorRow) (few : length rows ≤ 64) (good : every good_actor rows ≡ true) where
   channels_over : (cs : List ChannelRow) (more : List ℕ) → every (good_channel rows) cs ≡ true → Over more → Over (flat_map channel_words cs ++ more)
@@ -200,7 +200,7 @@ module _ (ws rest : List ℕ) (over : Over rest) (records : ℕ) where
       let same = append_snoc xs c cs in
       channel_step all ws h (rows_of rows xs) c more from (channel_fits rows c law.few_actors law.good_actors none)
       (channels_over rows law.few_actors law.good_actors cs rest good.1 over)
-      (check_from (ltb (length xs) 128) TableFull (channel_fault rows c) (lt_ltb (length xs) 128 room) none)
+      (check_from (ltb (length xs) 128) TableFull (channel_fault rows c) (lt-ltb (length xs) 128 room) none)
       ∙ channels_pass all (h + length part) rows (xs ++ c ∷ []) cs (ap (λ l. lawful (rows_of rows l)) same ∙ l)
       (drop_past ws h (h + length part) part more from refl) left
       ∙ (λ i. rows_from records ws (after i) (rows_of rows (same i)))
@@ -233,7 +233,7 @@ module _ (ws rest : List ℕ) (over : Over rest) (records : ℕ) where
       actor_step all ws h (rows_of xs []) a more from (actor_fits a none)
       (actors_over ys last good.1 (channels_over rows law.few_actors law.good_actors cs rest law.good_channels over))
       refl
-      (check_from (ltb (length xs) 64) TableFull (actor_fault a) (lt_ltb (length xs) 64 room) none)
+      (check_from (ltb (length xs) 64) TableFull (actor_fault a) (lt-ltb (length xs) 64 room) none)
       ∙ actors_pass all (h + length part) (xs ++ a ∷ []) ys cs (ap (λ r. lawful (rows_of r cs)) same ∙ l)
       (drop_past ws h (h + length part) part more from refl) left
       ∙ (λ i. rows_from records ws (after i) (rows_of (same i) cs))
@@ -265,7 +265,7 @@ words_read : (t : Table) → lawful t ≡ true → table_read (table_words t) �
 words_read t l =
     let z = length (row_words t) in
     let last = word_of 7 z ∷ [] in
-    let low = lt_ltb z 268435456 (rows_few t l) in
+    let low = lt-ltb z 268435456 (rows_few t l) in
     let p = rows_pass (table_words t) t last l refl (over_head 7 z [] low refl refl refl) (omega arith) in
     p.same ∙ end_step p.later (table_words t) z t (drop_at (row_words t) last z refl) low
 

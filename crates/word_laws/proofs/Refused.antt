@@ -1,7 +1,7 @@
 -- What a refusal of the words means.
 use Rattle.std.proofs.Common.{◌≡◌, ℕ, zero, suc, ◌+◌, ◌<◌, ◌≤◌, true, false, not, eqb, List, [], ◌∷◌, ◌++◌, length, drop, Some, None, Ok, Err, Option, Result, sym, refl, ap, ◌∙◌, subst, arith, length-append}
 use Rattle.std.proofs.lemmas.List.{drop_at, nil_from_length}
-use Rattle.std.proofs.lemmas.Bool.{not_from_false, not-false, lt_ltb, ne_eqb, eqb-true}
+use Rattle.std.proofs.lemmas.Bool.{not_from_false, not-false, lt-ltb, ne_eqb, eqb-true}
 use Rattle.rows.specs.declared.fault.Fault.{Fault}
 use Rattle.rows.specs.Table.{ActorRow, ChannelRow, Table, empty_table, lawful, add_actor, add_channel}
 use Rattle.table.proofs.Lawful.{lawful_with_actor, lawful_with_channel}
@@ -39,7 +39,7 @@ module _ (ws : List ℕ) (t : Table) (f : Fault) (rest : List ℕ) (l : lawful t
       let n = length a.times in
       let few = first.fits.few in
       let low : n < 268435456 = omega arith in
-      let over = subst Over (sym first.written) (over_head 1 n _ (lt_ltb n 268435456 low) refl refl refl) in
+      let over = subst Over (sym first.written) (over_head 1 n _ (lt-ltb n 268435456 low) refl refl refl) in
       let size = ap length first.written in
       let p = rows_pass ws t rest l e over (omega arith) in
       let part = actor_words a in

@@ -2,7 +2,7 @@
 use Rattle.std.proofs.Common.{◌≡◌, ℕ, suc, ◌+◌, ◌-◌, ◌<◌, Bool, true, false, cond, eqb, ltb, List, [], ◌∷◌, ◌++◌, map, length, drop, Some, None, Ok, Err, Option, Result, sym, refl, ap, ◌∙◌, append_assoc, append-nil, arith, length-append, length-drop}
 use Rattle.std.specs.List.{between}
 use Rattle.std.proofs.lemmas.List.{length-map}
-use Rattle.std.proofs.lemmas.Bool.{lt_ltb, eq-eqb}
+use Rattle.std.proofs.lemmas.Bool.{lt-ltb, eq-eqb}
 use Rattle.rows.specs.Steps.{answer}
 use Rattle.rows.specs.declared.row.Placement.{Placement}
 use Rattle.rows.specs.declared.row.Placement.TheVariants.{Free, Pinned}
@@ -129,9 +129,9 @@ actor_there a ws h more e f =
     let few : n < 256 = f.few in
     let low : n < 268435456 = omega arith in
     let part = between h (past ws (past ws (suc h + n) 4) 5) ws in
-    head_read false ws h 1 n ((map (word_of 3) a.times ++ (tick_words a ++ pin_words a)) ++ more) e (lt_ltb n 268435456 low)
+    head_read false ws h 1 n ((map (word_of 3) a.times ++ (tick_words a ++ pin_words a)) ++ more) e (lt-ltb n 268435456 low)
     ∙ accepted_part (check (ltb n 256) (Misplaced h) (numbers_fault ws (suc h) n)) actor_part part part
-    (check_from (ltb n 256) (Misplaced h) (numbers_fault ws (suc h) n) (lt_ltb n 256 few) (actor_numbers a ws h (suc h + n) more e f refl)) refl
+    (check_from (ltb n 256) (Misplaced h) (numbers_fault ws (suc h) n) (lt-ltb n 256 few) (actor_numbers a ws h (suc h + n) more e f refl)) refl
 
 pub actor_read : (a : ActorRow) (ws : List ℕ) (h : ℕ) (more : List ℕ) → drop h ws ≡ actor_words a ++ more → ActorFits a → Over more
     → record_at false ws h ≡ Ok (actor_part (actor_words a))
@@ -143,7 +143,7 @@ actor_again a f =
     let n = length a.times in
     let few : n < 256 = f.few in
     let low : n < 268435456 = omega arith in
-    let c = content_read 1 n (lt_ltb n 268435456 low) in
+    let c = content_read 1 n (lt-ltb n 268435456 low) in
     let j_is : suc n ≡ 1 + n = omega arith in
     ap (λ m. row_from (actor_words a) 1 (suc m)) c ∙ actor_row_lem a (actor_words a) 0 (suc n) [] (sym (append-nil (actor_words a))) f j_is over_none
 
@@ -221,7 +221,7 @@ module _ (c : ChannelRow) (f : ChannelFits c) where
   ends_low = ends_small c.writer c.reader (length c.writes) (length c.reads) f.writer_small f.reader_small f.few_writes f.few_reads
 
   pub ends_fit : small (ends c) ≡ true
-  ends_fit = let p = ends_low in let q : ends c < 268435456 = omega arith in lt_ltb (ends c) 268435456 q
+  ends_fit = let p = ends_low in let q : ends c < 268435456 = omega arith in lt-ltb (ends c) 268435456 q
 
   writes_in_lem : writes_in (ends c) ≡ length c.writes
   writes_in_lem = writes_field c.writer c.reader (length c.writes) (length c.reads) f.writer_small f.reader_small f.few_writes f.few_reads
@@ -247,7 +247,7 @@ module _ (c : ChannelRow) (f : ChannelFits c) where
       head_read b ws h 2 (ends c) ((map (word_of 3) c.writes ++ (map (word_of 3) c.reads ++ ceiling_words c)) ++ more) e ends_fit
       ∙ (λ i. channel_in ws h (ends c) (u i + v i))
       ∙ accepted_part (check (ltb (ends c) 16777216) (Misplaced h) (numbers_fault ws (suc h) (n + m))) channel_part part part
-      (check_from (ltb (ends c) 16777216) (Misplaced h) (numbers_fault ws (suc h) (n + m)) (lt_ltb (ends c) 16777216 ends_low)
+      (check_from (ltb (ends c) 16777216) (Misplaced h) (numbers_fault ws (suc h) (n + m)) (lt-ltb (ends c) 16777216 ends_low)
       (channel_numbers c ws h (suc h + n) (suc h + (n + m)) more e f refl k_is))
       refl
 

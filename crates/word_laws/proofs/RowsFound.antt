@@ -2,7 +2,7 @@
 use Rattle.std.proofs.Common.{◌≡◌, ℕ, suc, ◌+◌, ◌<◌, ◌≤◌, Bool, true, false, cond, not, ◌&&◌, eqb, ltb, List, [], ◌∷◌, ◌++◌, map, length, drop, Some, None, Ok, Err, Option, sym, refl, ap, ◌∙◌, subst, append_assoc, arith}
 use Rattle.std.specs.List.{between}
 use Rattle.std.proofs.lemmas.List.{drop_all}
-use Rattle.std.proofs.lemmas.Bool.{and_parts, not_true, ltb_true, eqb-true}
+use Rattle.std.proofs.lemmas.Bool.{and_parts, not-true, ltb-true, eqb-true}
 use Rattle.rows.specs.Table.{ActorRow, ChannelRow, actor_with, channel_with, at, pin_of, placed}
 use Rattle.words.specs.Checks.{check}
 use Rattle.words.proofs.Checks.{check_parts}
@@ -52,7 +52,7 @@ module _ (b : Bool) (ws : List ℕ) (h n : ℕ) (part : List ℕ) (head : drop h
       let o = given ws j 4 in
       let g = given ws (past ws j 4) 5 in
       let a = actor_with ts.numbers o (placed g) in
-      let few = ltb_true n 256 r.1 in
+      let few = ltb-true n 256 r.1 in
       let long = ts.many in
       let j_is : j ≡ suc h + length ts.numbers = ap (λ k. suc h + k) (sym long) in
       let stop_is = actor_past a ws h j j_is refl (sym (pinned_again g)) in
@@ -74,7 +74,7 @@ module _ (b : Bool) (ws : List ℕ) (h n : ℕ) (part : List ℕ) (head : drop h
               tick_small = given_fits ws j 4;
               pin_small = ap small_if (pinned_again g) ∙ given_fits ws (past ws j 4) 5;
             };
-        early = not_true b r.0;
+        early = not-true b r.0;
         words = is;
         there = from ∙ ap (λ i. actor_words a ++ drop i ws) after;
       }
@@ -97,7 +97,7 @@ module _ (ws : List ℕ) (h content : ℕ) (part : List ℕ) (head : drop h ws �
       let stop = past ws k 6 in
       let p = answer_ok (check (ltb content 16777216) (Misplaced h) (numbers_fault ws (suc h) (n + m))) (channel_part (between h stop ws)) (channel_part part) e in
       let q = check_parts (ltb content 16777216) (Misplaced h) (numbers_fault ws (suc h) (n + m)) p.0 in
-      let low = ltb_true content 16777216 q.0 in
+      let low = ltb-true content 16777216 q.0 in
       let s = numbers_part ws (suc h) n m q.1 in
       let xs = numbers_there ws (suc h) n s.0 in
       let ys = numbers_there ws j m s.1 in

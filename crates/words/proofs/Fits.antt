@@ -2,7 +2,7 @@
 use Rattle.std.proofs.Common.{◌≡◌, ℕ, zero, suc, ◌+◌, ◌*◌, ◌<◌, ◌≤◌, Bool, true, eqb, leb, List, [], ◌∷◌, ◌++◌, map, length, Some, None, Option, refl, arith, length-append}
 use Rattle.std.specs.List.{flat_map}
 use Rattle.std.proofs.lemmas.List.{length-map}
-use Rattle.std.proofs.lemmas.Bool.{and_parts, leb-true, lt_ltb, eqb-true}
+use Rattle.std.proofs.lemmas.Bool.{and_parts, leb-true, lt-ltb, eqb-true}
 use Rattle.rows.specs.declared.fault.Fault.TheVariants.{PhaseCount, TimeRange, NotBeforeRange, PinRange}
 use Rattle.rows.specs.declared.row.Placement.{Placement}
 use Rattle.rows.specs.declared.row.Placement.TheVariants.{Free, Pinned}
@@ -19,7 +19,7 @@ within_below : (low high n : ℕ) → within low high n ≡ true → n ≤ high
 within_below low high n e = leb-true n high (and_parts (leb low n) (leb n high) e).1
 
 within_small : (low high : ℕ) → high < 268435456 → (n : ℕ) → within low high n ≡ true → small n ≡ true
-within_small low high h n e = let p = within_below low high n e in let q : n < 268435456 = omega arith in lt_ltb n 268435456 q
+within_small low high h n e = let p = within_below low high n e in let q : n < 268435456 = omega arith in lt-ltb n 268435456 q
 
 given_small : (low high : ℕ) → high < 268435456 → (o : Option ℕ) → within_if_given low high o ≡ true → small_if o ≡ true
 given_small low high h None e = refl
@@ -27,7 +27,7 @@ given_small low high h (Some n) e = within_small low high h n e
 
 pin_fits : (p : Placement) → pin_within 15 p ≡ true → small_if (pin_of p) ≡ true
 pin_fits Free e = refl
-pin_fits (Pinned n) e = let p = leb-true n 15 e in let q : n < 268435456 = omega arith in lt_ltb n 268435456 q
+pin_fits (Pinned n) e = let p = leb-true n 15 e in let q : n < 268435456 = omega arith in lt-ltb n 268435456 q
 
 rates_small : (rates : List ℕ) → good_rates rates ≡ true → every small rates ≡ true
 rates_small rates e = every_weaker (within 0 255) small (within_small 0 255 (omega arith)) rates (and_parts (every (within 0 255) rates) _ e).0

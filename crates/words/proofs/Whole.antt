@@ -2,7 +2,7 @@
 use Rattle.std.proofs.Common.{◌≡◌, ℕ, zero, suc, ◌+◌, ◌-◌, ◌<◌, ◌≤◌, Bool, true, false, cond, not, eqb, ltb, List, [], ◌∷◌, length, get_or, drop, is_some, Some, None, Ok, Err, Option, sym, refl, ap, ◌∙◌, subst, arith, length-drop}
 use Rattle.std.specs.List.{between}
 use Rattle.std.proofs.lemmas.List.{length-take-le, get_or-take, get_or-drop}
-use Rattle.std.proofs.lemmas.Bool.{and_parts, not_true, ltb_true, eqb-true}
+use Rattle.std.proofs.lemmas.Bool.{and_parts, not-true, ltb-true, eqb-true}
 use Rattle.rows.specs.Steps.{answer}
 use Rattle.rows.specs.Table.{at}
 use Rattle.words.specs.Checks.{check}
@@ -100,8 +100,8 @@ module _ (after : Bool) (ws : List ℕ) (h : ℕ) where
         head = w;
         stands = e;
         kind = eqb-true (kind_of w) 1 k1;
-        first = not_true after n.0;
-        few = ltb_true (content_of w) 256 n.1;
+        first = not-true after n.0;
+        few = ltb-true (content_of w) 256 n.1;
         numbers = c.1;
         is = refl;
       })
@@ -109,7 +109,7 @@ module _ (after : Bool) (ws : List ℕ) (h : ℕ) where
       let a = answer_ok _ _ part r in
       let c = check_parts _ (Misplaced h) _ a.0 in
       subst ReadAs a.1
-      (record { head = w; stands = e; kind = eqb-true (kind_of w) 2 k2; few = ltb_true (content_of w) 16777216 c.0; numbers = c.1; is = refl })
+      (record { head = w; stands = e; kind = eqb-true (kind_of w) 2 k2; few = ltb-true (content_of w) 16777216 c.0; numbers = c.1; is = refl })
   headed_as w e part false false true k1 k2 k7 r =
       let a = answer_ok _ _ part r in
       let c = check_parts _ (WrongEnd h) _ a.0 in

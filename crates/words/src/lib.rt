@@ -1,4 +1,7 @@
 // Tables of 32-bit words: the format, the records that they are made of, and the rows loaded from them.
+
+#![tactic(auto)]
+
 pub mod fault;
 pub mod load;
 pub mod record;

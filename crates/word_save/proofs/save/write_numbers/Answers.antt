@@ -1,7 +1,7 @@
 use Rattle.std.proofs.Common.{◌≡◌, [], ◌∷◌, map, length, get_or, take, sym, ap, ◌∙◌, arith, length-take-le}
 use lib.ListN.{length-map}
 use Rattle.std.proofs.lemmas.List.{map_more, take_all}
-use Rattle.std.proofs.lemmas.Bool.{ltb_true}
+use Rattle.std.proofs.lemmas.Bool.{ltb-true}
 use Rattle.words.specs.Fitting.{small}
 use Rattle.words.specs.Format.{word_of}
 use Rattle.word_save.specs.Saves.{written}
@@ -16,7 +16,7 @@ word-of-requires c =
     let ns = c.args.numbers.now in
     let i = c.loop-n.n-index in (
       omega arith,
-      ltb_true (get_or ns i 0) 268435456 (every_at small ns i 0 c.requires.0 c.loop-n-test.true),
+      ltb-true (get_or ns i 0) 268435456 (every_at small ns i 0 c.requires.0 c.loop-n-test.true),
     )
 
 pub write-word-next-requires : goal.write-word-next-requires
