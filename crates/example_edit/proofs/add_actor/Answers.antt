@@ -7,10 +7,10 @@ use Rattle.example_edit.proofs.add_actor.Goals as goal
 pub withdraw-requires : goal.withdraw-requires
 withdraw-requires c =
     let same = (when_refused _ _ _ _ c.in-Err.ensures).1 in
-    ap (λ (b : Book). accepts b c.in-ok-ticket.ticket.mark) same ∙ opened_accepts _ _ _ c.in-ok-ticket.ensures
+    ap (λ (b : Book). accepts b c.in_ok-ticket.ticket.mark) same ∙ opened_accepts _ _ _ c.in_ok-ticket.ensures
 
 pub returns-in-Err : goal.returns-in-Err
 returns-in-Err c =
     let same = (when_refused _ _ _ _ c.in-Err.ensures).1 in
-    withdrawn_restores c.args.draft.now _ _ _ c.in-ok-ticket.ticket.mark c.in-ok-ticket.ensures
-    (c.withdraw.ensures ∙ ap (withdrawing c.in-ok-ticket.ticket.mark).made same)
+    withdrawn_restores c.args.draft.now _ _ _ c.in_ok-ticket.ticket.mark c.in_ok-ticket.ensures
+    (c.withdraw.ensures ∙ ap (withdrawing c.in_ok-ticket.ticket.mark).made same)

@@ -8,7 +8,7 @@ use Rattle.answers.proofs.printer.answers_text.Goals as goal
 pub loop-answer-preserved : goal.loop-answer-preserved
 loop-answer-preserved c =
     rows_more answer_text [] _ _ said_of c.args.answers.now c.loop-answer.answer-index c.answer-item.result c.loop-answer-test.true c.answer-item.is
-    c.loop-answer.invariant c.in-ok-push-answer.ensures
+    c.loop-answer.invariant c.in_ok-push_answer.ensures
 
 pub returns : goal.returns
 returns c = search (rules, take_all)

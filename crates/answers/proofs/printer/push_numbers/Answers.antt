@@ -6,7 +6,7 @@ use Rattle.answers.proofs.printer.push_numbers.Goals as goal
 
 pub loop-n-preserved : goal.loop-n-preserved
 loop-n-preserved c =
-    numbers_more spaced_text _ _ _ c.args.numbers.now c.loop-n.n-index 0 c.loop-n-test.true c.loop-n.invariant c.in-ok-push-spaced.ensures
+    numbers_more spaced_text _ _ _ c.args.numbers.now c.loop-n.n-index 0 c.loop-n-test.true c.loop-n.invariant c.in_ok-push_spaced.ensures
 
 pub returns : goal.returns
 returns c = search (rules, take_all)

@@ -10,8 +10,8 @@ use Rattle.session.proofs.runs.run.Goals as goal
 
 pub loop-call-preserved : goal.loop-call-preserved
 loop-call-preserved c =
-    let tells = c.in-ok-answer.ensures.served in
-    let told = told_more (vec_items c.loop-call.answers) (vec_items c.push.new.self) c.in-ok-answer.answer c.in-ok-push.ensures.items in
+    let tells = c.in_ok-answer.ensures.served in
+    let told = told_more (vec_items c.loop-call.answers) (vec_items c.push.new.self) c.in_ok-answer.answer c.in_ok-push.ensures.items in
     let i = c.loop-call.invariant in (
       turn_answers _ _ _ _ c.call-item.result _ c.loop-call-test.true c.call-item.is tells _ _ _ told i.0,
       turn_book _ _ _ _ c.call-item.result _ c.loop-call-test.true c.call-item.is tells _ i.1,

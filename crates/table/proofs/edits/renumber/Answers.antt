@@ -12,7 +12,7 @@ pub loop-channel-preserved : goal.loop-channel-preserved
 loop-channel-preserved c =
     let h : c.loop-channel.channel-index < length (map channel_row c.deref-mut-channel-items.result.now) = simp length-map c.loop-channel-test.true in
     changed_more channel_row (renumbered_ends c.args.gone) _ _ _ c.channel-item.result _ h (omega (arith, c.loop-channel.auto.channel-items, c.loop-channel-test.true))
-    c.loop-channel.invariant c.after-cut.ensures
+    c.loop-channel.invariant c.after_cut.ensures
 
 pub returns : goal.returns
 returns c =

@@ -5,7 +5,7 @@ use Rattle.std.proofs.lemmas.List.{at_drop_all}
 use Rattle.tokens.specs.Lines.{with_word, tokens_from, tokens_of}
 use Rattle.tokens.proofs.Words.{at_comment, at_blank, at_letter}
 use Rattle.tokens.proofs.lexer.tokens.Goals as goal
-use Rattle.tokens.proofs.lexer.tokens.Goals.{then-is-blank+in-ok-push-word, else-is-blank, then-loop-i-test+else-line-i-ne-COMMENT, else-loop-i-test}
+use Rattle.tokens.proofs.lexer.tokens.Goals.{then-is_blank+in_ok-push_word, else-is_blank, then-loop-i-test+else-line-i-ne-COMMENT, else-loop-i-test}
 
 pub loop-i-preserved : goal.loop-i-preserved
 loop-i-preserved c =
@@ -16,21 +16,21 @@ loop-i-preserved c =
     let h : i < length xs = c.loop-i-test.true in
     let inv = c.loop-i.invariant in
     let no_comment : eqb (get_or xs i 0) 35 ≡ false = search rules in
-    elim c.if-is-blank.branch [
-      | then-is-blank+in-ok-push-word w ↦
-          let told : vec_items c.if-is-blank.out ≡ with_word before word = ap vec_items w.out-is ∙ w.in-ok-push-word.ensures in
-          let none : between c.if-is-blank.start (i + 1) xs ≡ [] = ap (λ k. between k (i + 1) xs) w.start-is ∙ between_none xs (i + 1) in (
+    elim c.if-is_blank.branch [
+      | then-is_blank+in_ok-push_word w ↦
+          let told : vec_items c.if-is_blank.out ≡ with_word before word = ap vec_items w.out-is ∙ w.in_ok-push_word.ensures in
+          let none : between c.if-is_blank.start (i + 1) xs ≡ [] = ap (λ k. between k (i + 1) xs) w.start-is ∙ between_none xs (i + 1) in (
             omega (arith, w.start-is),
             omega arith,
-            (λ j. tokens_from (told j) (none j) (drop (i + 1) xs)) ∙ sym (at_blank xs before word i h no_comment (sym w.if-is-blank.ensures)) ∙ inv.2,
+            (λ j. tokens_from (told j) (none j) (drop (i + 1) xs)) ∙ sym (at_blank xs before word i h no_comment (sym w.if-is_blank.ensures)) ∙ inv.2,
           )
-      | else-is-blank w ↦
-          let told : vec_items c.if-is-blank.out ≡ before = ap vec_items w.out-is in
-          let more : between c.if-is-blank.start (i + 1) xs ≡ word ++ get_or xs i 0 ∷ [] =
+      | else-is_blank w ↦
+          let told : vec_items c.if-is_blank.out ≡ before = ap vec_items w.out-is in
+          let more : between c.if-is_blank.start (i + 1) xs ≡ word ++ get_or xs i 0 ∷ [] =
           ap (λ k. between k (i + 1) xs) w.start-is ∙ between_more xs c.loop-i.start i 0 inv.0 h in (
             omega (arith, w.start-is),
             omega arith,
-            (λ j. tokens_from (told j) (more j) (drop (i + 1) xs)) ∙ sym (at_letter xs before word i h no_comment (sym w.if-is-blank.ensures)) ∙ inv.2,
+            (λ j. tokens_from (told j) (more j) (drop (i + 1) xs)) ∙ sym (at_letter xs before word i h no_comment (sym w.if-is_blank.ensures)) ∙ inv.2,
           )
     ]
 
@@ -45,4 +45,4 @@ returns c =
       | then-loop-i-test+else-line-i-ne-COMMENT w ↦ sym (at_comment xs before word i w.loop-i-test.true (search rules))
       | else-loop-i-test w ↦ sym (at_drop_all (tokens_from before word) xs i w.loop-i-test.false)
     ] in
-    c.in-ok-push-word-2.ensures ∙ left ∙ c.loop-i.invariant.2
+    c.in_ok-push_word-2.ensures ∙ left ∙ c.loop-i.invariant.2

@@ -11,16 +11,16 @@ use Rattle.word_save.proofs.save.write_numbers.Goals as goal
 pub loop-n-init : goal.loop-n-init
 loop-n-init c = (written_none c.args.place c.args.out.now, (omega arith, c.requires.1))
 
-pub word-of-requires : goal.word-of-requires
-word-of-requires c =
+pub word_of-requires : goal.word_of-requires
+word_of-requires c =
     let ns = c.args.numbers.now in
     let i = c.loop-n.n-index in (
       omega arith,
       ltb-true (get_or ns i 0) 268435456 (every_at small ns i 0 c.requires.0 c.loop-n-test.true),
     )
 
-pub write-word-next-requires : goal.write-word-next-requires
-write-word-next-requires c =
+pub write_word-next-requires : goal.write_word-next-requires
+write_word-next-requires c =
     let next = c.loop-n.invariant.1.0 in
     let room = c.loop-n.invariant.1.1 in
     let kept = c.loop-n.auto.out in
@@ -35,9 +35,9 @@ loop-n-preserved c =
     let next = c.loop-n.invariant.1.0 in
     let room = c.loop-n.invariant.1.1 in (
       then_written c.args.place c.loop-n.next xs (word_of 3 (get_or ns i 0) ∷ []) c.args.out.now c.loop-n.out _ (omega arith) c.loop-n.invariant.0 (omega arith)
-          (c.write-word-next.ensures.out ∙ ap (λ w. written c.loop-n.next (w ∷ []) c.loop-n.out) c.word-of.ensures)
+          (c.write_word-next.ensures.out ∙ ap (λ w. written c.loop-n.next (w ∷ []) c.loop-n.out) c.word_of.ensures)
           ∙ ap (λ l. written c.args.place l c.args.out.now) (sym (map_more (word_of 3) ns i 0 c.loop-n-test.true)),
-      (c.write-word-next.ensures.after ∙ omega arith, room),
+      (c.write_word-next.ensures.after ∙ omega arith, room),
     )
 
 pub returns : goal.returns

@@ -10,10 +10,10 @@ pub returns : goal.returns
 returns c =
     let part = c.args.part.now in
     let n = head_content part in
-    let count = c.content-of-count.ensures in
+    let count = c.content_of-count.ensures in
     let long = c.requires.1 in
     let times = list_read part c.contents-times.result 1 n _ _ (suc n - 1) (omega arith) (omega arith) (omega arith) (omega arith) c.contents-times.ensures in
-    subst (λ a. Does (add_actor a) (table_of c.args.rows.now) (table_of c.add-actor.new.self) c.add-actor.result)
-    (actor_made part c.content-of-count.result _ _ c.given-pin.result _ count times c.given-not-before.ensures
-    (c.given-pin.ensures ∙ ap (λ i. given part i 5) c.past.ensures.value) c.from-pin.ensures)
-    c.add-actor.ensures
+    subst (λ a. Does (add_actor a) (table_of c.args.rows.now) (table_of c.add_actor.new.self) c.add_actor.result)
+    (actor_made part c.content_of-count.result _ _ c.given-pin.result _ count times c.given-not_before.ensures
+    (c.given-pin.ensures ∙ ap (λ i. given part i 5) c.past.ensures.value) c.from_pin.ensures)
+    c.add_actor.ensures

@@ -13,22 +13,22 @@ returns c = over _ _ _ _ c.loop-head.invariant c.loop-head-test.false
 pub returns-in-Err : goal.returns-in-Err
 returns-in-Err c =
     stopped _ _ _ _ c.loop-head.invariant c.loop-head-test.true _
-    (ap (λ b. record_at b c.args.words.now c.loop-head.head) (sym c.has-channels.ensures) ∙ c.in-Err.ensures)
+    (ap (λ b. record_at b c.args.words.now c.loop-head.head) (sym c.has_channels.ensures) ∙ c.in-Err.ensures)
 
-pub add-actor-requires : goal.add-actor-requires
-add-actor-requires c =
+pub add_actor-requires : goal.add_actor-requires
+add_actor-requires c =
     let ws = c.args.words.now in
-    let read = read_as c.has-channels.result ws c.loop-head.head (actor_part c.in-Actor.part.now) (c.in-Ok.ensures ∙ ap (λ r. Ok (part_of r)) c.in-Actor.is) in
-    let w = actor_within ws c.loop-head.head c.in-Actor.part.now c.has-channels.result read in
+    let read = read_as c.has_channels.result ws c.loop-head.head (actor_part c.in-Actor.part.now) (c.in-Ok.ensures ∙ ap (λ r. Ok (part_of r)) c.in-Actor.is) in
+    let w = actor_within ws c.loop-head.head c.in-Actor.part.now c.has_channels.result read in
     let few = read.few in
     let content = w.content_is in
     let long = w.long in
     (omega arith, omega arith)
 
-pub add-channel-requires : goal.add-channel-requires
-add-channel-requires c =
+pub add_channel-requires : goal.add_channel-requires
+add_channel-requires c =
     let ws = c.args.words.now in
-    let read = read_as c.has-channels.result ws c.loop-head.head (channel_part c.in-Channel.part.now) (c.in-Ok.ensures ∙ ap (λ r. Ok (part_of r)) c.in-Channel.is) in
+    let read = read_as c.has_channels.result ws c.loop-head.head (channel_part c.in-Channel.part.now) (c.in-Ok.ensures ∙ ap (λ r. Ok (part_of r)) c.in-Channel.is) in
     let w = channel_within ws c.loop-head.head c.in-Channel.part.now read in
     let content = ap (λ n. writes_in n + reads_in n) w.content_is in
     let long = w.long in
@@ -37,34 +37,34 @@ add-channel-requires c =
 pub returns-in-End : goal.returns-in-End
 returns-in-End c =
     finished _ _ _ _ c.loop-head.invariant c.loop-head-test.true _
-    (ap (λ b. record_at b c.args.words.now c.loop-head.head) (sym c.has-channels.ensures) ∙ c.in-Ok.ensures ∙ ap (λ r. Ok (part_of r)) c.in-End.is)
+    (ap (λ b. record_at b c.args.words.now c.loop-head.head) (sym c.has_channels.ensures) ∙ c.in-Ok.ensures ∙ ap (λ r. Ok (part_of r)) c.in-End.is)
 
 -- the row that was added, by either way
 added-err : (c : goal.In-Err-added) → Adds (table_of c.loop-head.rows) (table_of c.match-record.rows) (Err c.in-Err-added.fault) (part_of c.in-Ok.record) (length c.match-record.added.0.now)
 added-err c = elim c.match-record.branch [
   | in-Actor w ↦ same_adds _ _ _ _ _ _ _ _ _ (ap table_of w.rows-is) (sym c.in-Err-added.is ∙ ap (λ p. p.1) w.added-is) (ap part_of w.in-Actor.is)
-      (ap (λ p. length p.0.now) w.added-is) (adds_actor_lem _ w.add-actor.ensures)
+      (ap (λ p. length p.0.now) w.added-is) (adds_actor_lem _ w.add_actor.ensures)
   | in-Channel w ↦ same_adds _ _ _ _ _ _ _ _ _ (ap table_of w.rows-is) (sym c.in-Err-added.is ∙ ap (λ p. p.1) w.added-is) (ap part_of w.in-Channel.is)
-      (ap (λ p. length p.0.now) w.added-is) (adds_channel_lem _ w.add-channel.ensures)
+      (ap (λ p. length p.0.now) w.added-is) (adds_channel_lem _ w.add_channel.ensures)
 ]
 
-added-ok : (c : goal.In-default) → Adds (table_of c.loop-head.rows) (table_of c.match-record.rows) (Ok c.in-default.field-0) (part_of c.in-Ok.record) (length c.match-record.added.0.now)
+added-ok : (c : goal.In-default) → Adds (table_of c.loop-head.rows) (table_of c.match-record.rows) (Ok c.in_default.field-0) (part_of c.in-Ok.record) (length c.match-record.added.0.now)
 added-ok c = elim c.match-record.branch [
-  | in-Actor w ↦ same_adds _ _ _ _ _ _ _ _ _ (ap table_of w.rows-is) (sym c.in-default.is ∙ ap (λ p. p.1) w.added-is) (ap part_of w.in-Actor.is)
-      (ap (λ p. length p.0.now) w.added-is) (adds_actor_lem _ w.add-actor.ensures)
-  | in-Channel w ↦ same_adds _ _ _ _ _ _ _ _ _ (ap table_of w.rows-is) (sym c.in-default.is ∙ ap (λ p. p.1) w.added-is) (ap part_of w.in-Channel.is)
-      (ap (λ p. length p.0.now) w.added-is) (adds_channel_lem _ w.add-channel.ensures)
+  | in-Actor w ↦ same_adds _ _ _ _ _ _ _ _ _ (ap table_of w.rows-is) (sym c.in_default.is ∙ ap (λ p. p.1) w.added-is) (ap part_of w.in-Actor.is)
+      (ap (λ p. length p.0.now) w.added-is) (adds_actor_lem _ w.add_actor.ensures)
+  | in-Channel w ↦ same_adds _ _ _ _ _ _ _ _ _ (ap table_of w.rows-is) (sym c.in_default.is ∙ ap (λ p. p.1) w.added-is) (ap part_of w.in-Channel.is)
+      (ap (λ p. length p.0.now) w.added-is) (adds_channel_lem _ w.add_channel.ensures)
 ]
 
 pub returns-in-Err-added : goal.returns-in-Err-added
 returns-in-Err-added c =
     row_refused _ _ _ _ c.loop-head.invariant c.loop-head-test.true _ _ _ _
-    (ap (λ b. record_at b c.args.words.now c.loop-head.head) (sym c.has-channels.ensures) ∙ c.in-Ok.ensures) (added-err c)
+    (ap (λ b. record_at b c.args.words.now c.loop-head.head) (sym c.has_channels.ensures) ∙ c.in-Ok.ensures) (added-err c)
 
 pub loop-head-smaller : goal.loop-head-smaller
 loop-head-smaller c =
     let m = moves _ _ _ _ c.loop-head.invariant c.loop-head-test.true _ _ _ _
-    (ap (λ b. record_at b c.args.words.now c.loop-head.head) (sym c.has-channels.ensures) ∙ c.in-Ok.ensures) (added-ok c) in
+    (ap (λ b. record_at b c.args.words.now c.loop-head.head) (sym c.has_channels.ensures) ∙ c.in-Ok.ensures) (added-ok c) in
     let a = m.0 in
     let b = m.1 in
     omega arith
@@ -72,4 +72,4 @@ loop-head-smaller c =
 pub loop-head-preserved : goal.loop-head-preserved
 loop-head-preserved c =
     row_taken _ _ _ _ c.loop-head.invariant c.loop-head-test.true _ _ _ _
-    (ap (λ b. record_at b c.args.words.now c.loop-head.head) (sym c.has-channels.ensures) ∙ c.in-Ok.ensures) (added-ok c)
+    (ap (λ b. record_at b c.args.words.now c.loop-head.head) (sym c.has_channels.ensures) ∙ c.in-Ok.ensures) (added-ok c)

@@ -4,4 +4,4 @@ use Rattle.words.proofs.Loaded.{same_emptiness}
 use Rattle.words.proofs.load.has_channels.Goals as goal
 
 pub returns : goal.returns
-returns c = ap not (c.is-empty.ensures ∙ same_emptiness channel_row _ _ c.channels.ensures)
+returns c = ap not (c.is_empty.ensures ∙ same_emptiness channel_row _ _ c.channels.ensures)

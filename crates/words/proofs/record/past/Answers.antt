@@ -4,11 +4,11 @@ use Rattle.words.specs.Records.{given}
 use Rattle.words.proofs.Found.{given_within}
 use Rattle.words.proofs.record.past.Goals as goal
 
-pub returns-then-is-some : goal.returns-then-is-some
-returns-then-is-some c =
+pub returns-then-is_some : goal.returns-then-is_some
+returns-then-is_some c =
     let ws = c.args.words.now in
     let i = c.args.place in
-    let some : is_some (given ws i c.args.kind) ≡ true = ap is_some (sym c.given.ensures) ∙ sym c.if-is-some.ensures in
+    let some : is_some (given ws i c.args.kind) ≡ true = ap is_some (sym c.given.ensures) ∙ sym c.if-is_some.ensures in
     let h = given_within ws i c.args.kind some in
     let next : i + 1 ≡ suc i = omega arith in
     record { value = next ∙ sym (cond-true (is_some (given ws i c.args.kind)) (suc i) i some); within = (omega arith, omega arith) }

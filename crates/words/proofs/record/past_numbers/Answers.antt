@@ -8,16 +8,16 @@ loop-init c =
     let all : c.args.count ≡ c.args.count - 0 = omega arith in
     (ap (numbers_fault c.args.words.now c.args.from) all, (omega arith, c.requires))
 
-pub returns-in-default : goal.returns-in-default
-returns-in-default c =
+pub returns-in_default : goal.returns-in_default
+returns-in_default c =
     let ws = c.args.words.now in
     let i = c.loop.place in
     let n = c.args.count - (c.loop.counter + 1) in
     let more : c.args.count - c.loop.counter ≡ suc n = omega arith in
     c.loop.invariant.0 ∙ ap (numbers_fault ws i) more ∙ numbers_lacking ws i n (lacking ws i (search rules))
 
-pub returns-then-kind-of-ne-NUMBER : goal.returns-then-kind-of-ne-NUMBER
-returns-then-kind-of-ne-NUMBER c =
+pub returns-then-kind_of-ne-NUMBER : goal.returns-then-kind_of-ne-NUMBER
+returns-then-kind_of-ne-NUMBER c =
     let ws = c.args.words.now in
     let i = c.loop.place in
     let w = c.in-Some.word.now in
@@ -25,7 +25,7 @@ returns-then-kind-of-ne-NUMBER c =
     let more : c.args.count - c.loop.counter ≡ suc n = omega arith in
     let is = found ws i w (search rules) (search rules) in
     c.loop.invariant.0 ∙ ap (numbers_fault ws i) more
-    ∙ numbers_other ws i n w is (λ e. c.if-kind-of-ne-NUMBER.true (c.kind-of.ensures ∙ e)) ∙ ap (λ f. Some f) (sym c.wrong-kind.ensures)
+    ∙ numbers_other ws i n w is (λ e. c.if-kind_of-ne-NUMBER.true (c.kind_of.ensures ∙ e)) ∙ ap (λ f. Some f) (sym c.wrong_kind.ensures)
 
 pub loop-preserved : goal.loop-preserved
 loop-preserved c =
@@ -36,7 +36,7 @@ loop-preserved c =
     let more : c.args.count - c.loop.counter ≡ suc n = omega arith in
     let next : suc i ≡ i + 1 = omega arith in
     let is = found ws i w (search rules) (search rules) in (
-      c.loop.invariant.0 ∙ ap (numbers_fault ws i) more ∙ numbers_more ws i n w is (sym c.kind-of.ensures ∙ c.if-kind-of-ne-NUMBER.false)
+      c.loop.invariant.0 ∙ ap (numbers_fault ws i) more ∙ numbers_more ws i n w is (sym c.kind_of.ensures ∙ c.if-kind_of-ne-NUMBER.false)
           ∙ ap (λ j. numbers_fault ws j n) next,
       (search rules, search rules),
     )

@@ -24,13 +24,13 @@ invariant-of-self c =
     let made = c.in-Ok.ensures in
     let none : (add_actor row).fault (table_of rows) ≡ None =
     check_from _ TableFull (actor_fault row) (fewer actor_row (vec_items rows.actors) c.len-number.result len 64 c.if-number-ge-MOST-ACTORS.false) made.0 in
-    let cap = c.push-reserved.ensures.capacity in
+    let cap = c.push_reserved.ensures.capacity in
     let room = rows.actor_room in (
       omega arith,
       (
         rows.channel_room,
         (
-          actor_added_lawful (vec_items rows.actors) (vec_items rows.channels) rows.accepted row c.in-Ok.actor _ made.1 c.push-reserved.ensures.items none,
+          actor_added_lawful (vec_items rows.actors) (vec_items rows.channels) rows.accepted row c.in-Ok.actor _ made.1 c.push_reserved.ensures.items none,
           tt,
         ),
       ),
@@ -45,7 +45,7 @@ returns-in-Ok c =
     let none : (add_actor row).fault (table_of rows) ≡ None =
     check_from _ TableFull (actor_fault row) (fewer actor_row (vec_items rows.actors) c.len-number.result len 64 c.if-number-ge-MOST-ACTORS.false) made.0 in
     granted (add_actor row) (table_of rows) _ _ none (next_number actor_row (vec_items rows.actors) c.len-number.result len)
-    (actor_added_lem (vec_items rows.actors) (vec_items rows.channels) rows.accepted row c.in-Ok.actor _ made.1 c.push-reserved.ensures.items)
+    (actor_added_lem (vec_items rows.actors) (vec_items rows.channels) rows.accepted row c.in-Ok.actor _ made.1 c.push_reserved.ensures.items)
 
 pub returns-in-Err : goal.returns-in-Err
 returns-in-Err c =

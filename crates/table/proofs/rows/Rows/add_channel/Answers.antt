@@ -23,16 +23,16 @@ invariant-of-self c =
     let row = channel_with c.args.writer c.args.reader c.args.writes.now c.args.reads.now c.args.ceiling in
     let len = c.len-number.ensures ∙ rows.channels.ok.0 in
     let made = c.in-Ok.ensures in
-    let good : channel_fault (table_of rows).actors row ≡ None = ap (λ (l : List Actor). channel_fault (map actor_row l) row) (sym c.as-slice.ensures.value) ∙ made.0 in
+    let good : channel_fault (table_of rows).actors row ≡ None = ap (λ (l : List Actor). channel_fault (map actor_row l) row) (sym c.as_slice.ensures.value) ∙ made.0 in
     let none : (add_channel row).fault (table_of rows) ≡ None =
     check_from _ TableFull (channel_fault (table_of rows).actors row) (fewer channel_row (vec_items rows.channels) c.len-number.result len 128 c.if-number-ge-MOST-CHANNELS.false) good in
-    let cap = c.push-reserved.ensures.capacity in
+    let cap = c.push_reserved.ensures.capacity in
     let room = rows.channel_room in (
       rows.actor_room,
       (
         omega arith,
         (
-          channel_added_lawful (vec_items rows.actors) (vec_items rows.channels) rows.accepted row c.in-Ok.channel _ made.1 c.push-reserved.ensures.items none,
+          channel_added_lawful (vec_items rows.actors) (vec_items rows.channels) rows.accepted row c.in-Ok.channel _ made.1 c.push_reserved.ensures.items none,
           tt,
         ),
       ),
@@ -44,11 +44,11 @@ returns-in-Ok c =
     let row = channel_with c.args.writer c.args.reader c.args.writes.now c.args.reads.now c.args.ceiling in
     let len = c.len-number.ensures ∙ rows.channels.ok.0 in
     let made = c.in-Ok.ensures in
-    let good : channel_fault (table_of rows).actors row ≡ None = ap (λ (l : List Actor). channel_fault (map actor_row l) row) (sym c.as-slice.ensures.value) ∙ made.0 in
+    let good : channel_fault (table_of rows).actors row ≡ None = ap (λ (l : List Actor). channel_fault (map actor_row l) row) (sym c.as_slice.ensures.value) ∙ made.0 in
     let none : (add_channel row).fault (table_of rows) ≡ None =
     check_from _ TableFull (channel_fault (table_of rows).actors row) (fewer channel_row (vec_items rows.channels) c.len-number.result len 128 c.if-number-ge-MOST-CHANNELS.false) good in
     granted (add_channel row) (table_of rows) _ _ none (next_number channel_row (vec_items rows.channels) c.len-number.result len)
-    (channel_added_lem (vec_items rows.actors) (vec_items rows.channels) rows.accepted row c.in-Ok.channel _ made.1 c.push-reserved.ensures.items)
+    (channel_added_lem (vec_items rows.actors) (vec_items rows.channels) rows.accepted row c.in-Ok.channel _ made.1 c.push_reserved.ensures.items)
 
 pub returns-in-Err : goal.returns-in-Err
 returns-in-Err c =
@@ -56,6 +56,6 @@ returns-in-Err c =
     let row = channel_with c.args.writer c.args.reader c.args.writes.now c.args.reads.now c.args.ceiling in
     let len = c.len-number.ensures ∙ rows.channels.ok.0 in
     let bad : channel_fault (table_of rows).actors row ≡ Some c.in-Err.fault =
-    ap (λ (l : List Actor). channel_fault (map actor_row l) row) (sym c.as-slice.ensures.value) ∙ c.in-Err.ensures in
+    ap (λ (l : List Actor). channel_fault (map actor_row l) row) (sym c.as_slice.ensures.value) ∙ c.in-Err.ensures in
     refused (add_channel row) (table_of rows) (table_of rows) c.in-Err.fault
     (sym (check_passed _ TableFull (channel_fault (table_of rows).actors row) _ (fewer channel_row (vec_items rows.channels) c.len-number.result len 128 c.if-number-ge-MOST-CHANNELS.false) (sym bad))) refl

@@ -7,7 +7,7 @@ refill-requires c =
     let other = c.args.other.now in
     let few = few_actors (vec_items other.actors) (vec_items other.channels) other.accepted in
     let len = other.actors.ok.0 in
-    let slice = c.as-slice.ensures.len in
+    let slice = c.as_slice.ensures.len in
     let room = c.args.self.now.actor_room in
     omega arith
 
@@ -16,6 +16,6 @@ refill-requires-2 c =
     let other = c.args.other.now in
     let few = few_channels (vec_items other.actors) (vec_items other.channels) other.accepted in
     let len = other.channels.ok.0 in
-    let slice = c.as-slice-2.ensures.len in
+    let slice = c.as_slice-2.ensures.len in
     let room = c.args.self.now.channel_room in
     omega arith

@@ -16,11 +16,11 @@ returns-then-number-len c =
     refused (cut_actor c.args.number) (table_of rows) (table_of rows) NoActor
     (sym (check_failed _ NoActor _ (not_there actor_row (vec_items rows.actors) c.len.result len c.args.number c.if-number-len.true))) refl
 
-pub returns-then-not-is-unused : goal.returns-then-not-is-unused
-returns-then-not-is-unused c =
+pub returns-then-not-is_unused : goal.returns-then-not-is_unused
+returns-then-not-is_unused c =
     let rows = c.args.self.now in
     let len = c.len.ensures ∙ rows.actors.ok.0 in
-    let used = ap (λ (l : List Channel). every (λ r. not (names c.args.number r)) (map channel_row l)) (sym c.as-slice.ensures.value) ∙ sym c.if-not-is-unused.ensures in
+    let used = ap (λ (l : List Channel). every (λ r. not (names c.args.number r)) (map channel_row l)) (sym c.as_slice.ensures.value) ∙ sym c.if-not-is_unused.ensures in
     refused (cut_actor c.args.number) (table_of rows) (table_of rows) ActorInUse
     (sym
     (check_passed _ NoActor _ _ (there actor_row (vec_items rows.actors) c.len.result len c.args.number c.if-number-len.false)
@@ -30,7 +30,7 @@ pub invariant-of-self : goal.invariant-of-self
 invariant-of-self c =
     let rows = c.args.self.now in
     let len = c.len.ensures ∙ rows.actors.ok.0 in
-    let unused = ap (λ (l : List Channel). every (λ r. not (names c.args.number r)) (map channel_row l)) (sym c.as-slice.ensures.value) ∙ sym c.if-not-is-unused.ensures in
+    let unused = ap (λ (l : List Channel). every (λ r. not (names c.args.number r)) (map channel_row l)) (sym c.as_slice.ensures.value) ∙ sym c.if-not-is_unused.ensures in
     let none : (cut_actor c.args.number).fault (table_of rows) ≡ None =
     check_from _ NoActor _ (there actor_row (vec_items rows.actors) c.len.result len c.args.number c.if-number-len.false) (check_from _ ActorInUse None unused refl) in
     let cap = c.remove.ensures.capacity in
@@ -52,7 +52,7 @@ pub returns : goal.returns
 returns c =
     let rows = c.args.self.now in
     let len = c.len.ensures ∙ rows.actors.ok.0 in
-    let unused = ap (λ (l : List Channel). every (λ r. not (names c.args.number r)) (map channel_row l)) (sym c.as-slice.ensures.value) ∙ sym c.if-not-is-unused.ensures in
+    let unused = ap (λ (l : List Channel). every (λ r. not (names c.args.number r)) (map channel_row l)) (sym c.as_slice.ensures.value) ∙ sym c.if-not-is_unused.ensures in
     granted (cut_actor c.args.number) (table_of rows) _ _
     (check_from _ NoActor _ (there actor_row (vec_items rows.actors) c.len.result len c.args.number c.if-number-len.false) (check_from _ ActorInUse None unused refl)) refl
     (actor_cut_lem (vec_items rows.actors) (vec_items rows.channels) rows.accepted c.args.number _ _ c.remove.ensures.items

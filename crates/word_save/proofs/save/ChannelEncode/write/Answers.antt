@@ -8,60 +8,60 @@ use Rattle.word_save.specs.Saves.{written}
 use Rattle.word_save.proofs.Written.{room_after_head, room_after_two, room_after_three, record_written, list_size}
 use Rattle.word_save.proofs.save.ChannelEncode.write.Goals as goal
 
-pub write-numbers-reads-from-requires : goal.write-numbers-reads-from-requires
-write-numbers-reads-from-requires c =
+pub write_numbers-reads_from-requires : goal.write_numbers-reads_from-requires
+write_numbers-reads_from-requires c =
     let a = c.args.self.now in
     let ws = listed a.writes in
     let rs = listed a.reads in
-    let is = c.as-slice-writes.ensures in
-    let are = c.as-slice-reads.ensures in
+    let is = c.as_slice-writes.ensures in
+    let are = c.as_slice-reads.ensures in
     let ends =
-    c.word-of.ensures ∙ ap (word_of 2) c.ends-content-ends.ensures.value
-    ∙ ap (λ l. word_of 2 (ends_content a.writer a.reader (length l) (length c.as-slice-reads.result.now))) is
+    c.word_of.ensures ∙ ap (word_of 2) c.ends_content-ends.ensures.value
+    ∙ ap (λ l. word_of 2 (ends_content a.writer a.reader (length l) (length c.as_slice-reads.result.now))) is
     ∙ ap (λ l. word_of 2 (ends_content a.writer a.reader (length ws) (length l))) are in
     let size = ap length is ∙ sym (length-map ws (word_of 3)) in
     let room =
     room_after_head c.args.place (word_of 2 (ends_content a.writer a.reader (length ws) (length rs))) (map (word_of 3) ws) (map (word_of 3) rs) (option_words 6 a.ceiling) c.args.out.now
-    c.requires.1 _ _ (c.write-word-writes-from.ensures.out ∙ ap (λ w. written c.args.place (w ∷ []) c.args.out.now) ends) c.write-word-writes-from.ensures.after in
+    c.requires.1 _ _ (c.write_word-writes_from.ensures.out ∙ ap (λ w. written c.args.place (w ∷ []) c.args.out.now) ends) c.write_word-writes_from.ensures.after in
     (ap (every small) is ∙ c.requires.0.writes_small, omega arith)
 
-pub write-numbers-ceiling-from-requires : goal.write-numbers-ceiling-from-requires
-write-numbers-ceiling-from-requires c =
+pub write_numbers-ceiling_from-requires : goal.write_numbers-ceiling_from-requires
+write_numbers-ceiling_from-requires c =
     let a = c.args.self.now in
     let ws = listed a.writes in
     let rs = listed a.reads in
-    let is = c.as-slice-writes.ensures in
-    let are = c.as-slice-reads.ensures in
+    let is = c.as_slice-writes.ensures in
+    let are = c.as_slice-reads.ensures in
     let ends =
-    c.word-of.ensures ∙ ap (word_of 2) c.ends-content-ends.ensures.value
-    ∙ ap (λ l. word_of 2 (ends_content a.writer a.reader (length l) (length c.as-slice-reads.result.now))) is
+    c.word_of.ensures ∙ ap (word_of 2) c.ends_content-ends.ensures.value
+    ∙ ap (λ l. word_of 2 (ends_content a.writer a.reader (length l) (length c.as_slice-reads.result.now))) is
     ∙ ap (λ l. word_of 2 (ends_content a.writer a.reader (length ws) (length l))) are in
     let size = ap length are ∙ sym (length-map rs (word_of 3)) in
     let room =
     room_after_two c.args.place (word_of 2 (ends_content a.writer a.reader (length ws) (length rs))) (map (word_of 3) ws) (map (word_of 3) rs) (option_words 6 a.ceiling) c.args.out.now
-    c.requires.1 _ _ (c.write-word-writes-from.ensures.out ∙ ap (λ w. written c.args.place (w ∷ []) c.args.out.now) ends) c.write-word-writes-from.ensures.after _ _
-    (c.write-numbers-reads-from.ensures.out ∙ ap (λ l. written c.write-word-writes-from.result (map (word_of 3) l) c.write-word-writes-from.new.out) is)
-    (list_size _ _ _ _ is c.write-numbers-reads-from.ensures.after) in
+    c.requires.1 _ _ (c.write_word-writes_from.ensures.out ∙ ap (λ w. written c.args.place (w ∷ []) c.args.out.now) ends) c.write_word-writes_from.ensures.after _ _
+    (c.write_numbers-reads_from.ensures.out ∙ ap (λ l. written c.write_word-writes_from.result (map (word_of 3) l) c.write_word-writes_from.new.out) is)
+    (list_size _ _ _ _ is c.write_numbers-reads_from.ensures.after) in
     (ap (every small) are ∙ c.requires.0.reads_small, omega arith)
 
-pub write-option-requires : goal.write-option-requires
-write-option-requires c =
+pub write_option-requires : goal.write_option-requires
+write_option-requires c =
     let a = c.args.self.now in
     let ws = listed a.writes in
     let rs = listed a.reads in
-    let is = c.as-slice-writes.ensures in
-    let are = c.as-slice-reads.ensures in
+    let is = c.as_slice-writes.ensures in
+    let are = c.as_slice-reads.ensures in
     let ends =
-    c.word-of.ensures ∙ ap (word_of 2) c.ends-content-ends.ensures.value
-    ∙ ap (λ l. word_of 2 (ends_content a.writer a.reader (length l) (length c.as-slice-reads.result.now))) is
+    c.word_of.ensures ∙ ap (word_of 2) c.ends_content-ends.ensures.value
+    ∙ ap (λ l. word_of 2 (ends_content a.writer a.reader (length l) (length c.as_slice-reads.result.now))) is
     ∙ ap (λ l. word_of 2 (ends_content a.writer a.reader (length ws) (length l))) are in
     let room =
     room_after_three c.args.place (word_of 2 (ends_content a.writer a.reader (length ws) (length rs))) (map (word_of 3) ws) (map (word_of 3) rs) (option_words 6 a.ceiling) c.args.out.now
-    c.requires.1 _ _ (c.write-word-writes-from.ensures.out ∙ ap (λ w. written c.args.place (w ∷ []) c.args.out.now) ends) c.write-word-writes-from.ensures.after _ _
-    (c.write-numbers-reads-from.ensures.out ∙ ap (λ l. written c.write-word-writes-from.result (map (word_of 3) l) c.write-word-writes-from.new.out) is)
-    (list_size _ _ _ _ is c.write-numbers-reads-from.ensures.after) _ _
-    (c.write-numbers-ceiling-from.ensures.out ∙ ap (λ l. written c.write-numbers-reads-from.result (map (word_of 3) l) c.write-numbers-reads-from.new.out) are)
-    (list_size _ _ _ _ are c.write-numbers-ceiling-from.ensures.after) in
+    c.requires.1 _ _ (c.write_word-writes_from.ensures.out ∙ ap (λ w. written c.args.place (w ∷ []) c.args.out.now) ends) c.write_word-writes_from.ensures.after _ _
+    (c.write_numbers-reads_from.ensures.out ∙ ap (λ l. written c.write_word-writes_from.result (map (word_of 3) l) c.write_word-writes_from.new.out) is)
+    (list_size _ _ _ _ is c.write_numbers-reads_from.ensures.after) _ _
+    (c.write_numbers-ceiling_from.ensures.out ∙ ap (λ l. written c.write_numbers-reads_from.result (map (word_of 3) l) c.write_numbers-reads_from.new.out) are)
+    (list_size _ _ _ _ are c.write_numbers-ceiling_from.ensures.after) in
     (omega arith, (c.requires.0.ceiling_small, room))
 
 pub returns : goal.returns
@@ -69,18 +69,18 @@ returns c =
     let a = c.args.self.now in
     let ws = listed a.writes in
     let rs = listed a.reads in
-    let is = c.as-slice-writes.ensures in
-    let are = c.as-slice-reads.ensures in
+    let is = c.as_slice-writes.ensures in
+    let are = c.as_slice-reads.ensures in
     let ends =
-    c.word-of.ensures ∙ ap (word_of 2) c.ends-content-ends.ensures.value
-    ∙ ap (λ l. word_of 2 (ends_content a.writer a.reader (length l) (length c.as-slice-reads.result.now))) is
+    c.word_of.ensures ∙ ap (word_of 2) c.ends_content-ends.ensures.value
+    ∙ ap (λ l. word_of 2 (ends_content a.writer a.reader (length l) (length c.as_slice-reads.result.now))) is
     ∙ ap (λ l. word_of 2 (ends_content a.writer a.reader (length ws) (length l))) are in
     let all =
     record_written c.args.place (word_of 2 (ends_content a.writer a.reader (length ws) (length rs))) (map (word_of 3) ws) (map (word_of 3) rs) (option_words 6 a.ceiling) c.args.out.now
-    c.requires.1 _ _ (c.write-word-writes-from.ensures.out ∙ ap (λ w. written c.args.place (w ∷ []) c.args.out.now) ends) c.write-word-writes-from.ensures.after _ _
-    (c.write-numbers-reads-from.ensures.out ∙ ap (λ l. written c.write-word-writes-from.result (map (word_of 3) l) c.write-word-writes-from.new.out) is)
-    (list_size _ _ _ _ is c.write-numbers-reads-from.ensures.after) _ _
-    (c.write-numbers-ceiling-from.ensures.out ∙ ap (λ l. written c.write-numbers-reads-from.result (map (word_of 3) l) c.write-numbers-reads-from.new.out) are)
-    (list_size _ _ _ _ are c.write-numbers-ceiling-from.ensures.after) _ _
-    c.write-option.ensures.out c.write-option.ensures.after in
+    c.requires.1 _ _ (c.write_word-writes_from.ensures.out ∙ ap (λ w. written c.args.place (w ∷ []) c.args.out.now) ends) c.write_word-writes_from.ensures.after _ _
+    (c.write_numbers-reads_from.ensures.out ∙ ap (λ l. written c.write_word-writes_from.result (map (word_of 3) l) c.write_word-writes_from.new.out) is)
+    (list_size _ _ _ _ is c.write_numbers-reads_from.ensures.after) _ _
+    (c.write_numbers-ceiling_from.ensures.out ∙ ap (λ l. written c.write_numbers-reads_from.result (map (word_of 3) l) c.write_numbers-reads_from.new.out) are)
+    (list_size _ _ _ _ are c.write_numbers-ceiling_from.ensures.after) _ _
+    c.write_option.ensures.out c.write_option.ensures.after in
     record { after = all.0; out = all.1 }
