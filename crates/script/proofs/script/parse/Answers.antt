@@ -8,7 +8,7 @@ use Rattle.script.specs.Scripts.{finished, lines_read}
 use Rattle.script.specs.Whole.{sofar_of, FailsAt}
 use Rattle.script.proofs.Turns.{read, at_end, at_feed, at_byte, then_ok, then_fails}
 use Rattle.script.proofs.script.parse.Goals as goal
-use Rattle.script.proofs.script.parse.Goals.{then-b-eq-LINE-FEED+in_ok-read_at, else-b-eq-LINE-FEED}
+use Rattle.script.proofs.script.parse.Goals.{then-b-eq-LINE_FEED+in_ok-read_at, else-b-eq-LINE_FEED}
 
 pub returns-in_err-read_at : goal.returns-in_err-read_at
 returns-in_err-read_at c =
@@ -31,20 +31,20 @@ loop-i-preserved c =
     let line = between c.loop-i.start i xs in
     let h : i < length xs = c.loop-i-test.true in
     let inv = c.loop-i.invariant in
-    elim c.if-b-eq-LINE-FEED.branch [
-      | then-b-eq-LINE-FEED+in_ok-read_at w ↦
-          let none : between c.if-b-eq-LINE-FEED.start (i + 1) xs ≡ [] = ap (λ k. between k (i + 1) xs) w.start-is ∙ between_none xs (i + 1) in
-          let same : sofar_of c.if-b-eq-LINE-FEED.reader ≡ sofar_of w.read_at.new.self = ap sofar_of w.reader_is in
+    elim c.if-b-eq-LINE_FEED.branch [
+      | then-b-eq-LINE_FEED+in_ok-read_at w ↦
+          let none : between c.if-b-eq-LINE_FEED.start (i + 1) xs ≡ [] = ap (λ k. between k (i + 1) xs) w.start-is ∙ between_none xs (i + 1) in
+          let same : sofar_of c.if-b-eq-LINE_FEED.reader ≡ sofar_of w.read_at.new.self = ap sofar_of w.reader_is in
           let went = then_ok (read xs n s line i) (λ t. lines_read (n + 1) t (lines_from [] (drop (i + 1) xs))) _ w.in_ok-read_at.ensures in (
             omega (arith, w.start-is),
             omega (arith, w.number-is),
             (λ j. lines_read (w.number-is j) (same j) (lines_from (none j) (drop (i + 1) xs))) ∙ sym went
                 ∙ sym (at_feed xs n s line i h (search rules)) ∙ inv.2,
           )
-      | else-b-eq-LINE-FEED w ↦
-          let more : between c.if-b-eq-LINE-FEED.start (i + 1) xs ≡ line ++ get_or xs i 0 ∷ [] =
+      | else-b-eq-LINE_FEED w ↦
+          let more : between c.if-b-eq-LINE_FEED.start (i + 1) xs ≡ line ++ get_or xs i 0 ∷ [] =
           ap (λ k. between k (i + 1) xs) w.start-is ∙ between_more xs c.loop-i.start i 0 inv.0 h in
-          let same : sofar_of c.if-b-eq-LINE-FEED.reader ≡ s = ap sofar_of w.reader_is in (
+          let same : sofar_of c.if-b-eq-LINE_FEED.reader ≡ s = ap sofar_of w.reader_is in (
             omega (arith, w.start-is),
             omega (arith, w.number-is),
             (λ j. lines_read (w.number-is j) (same j) (lines_from (more j) (drop (i + 1) xs)))

@@ -10,14 +10,14 @@ loop-channel-init c = refl
 
 pub loop-channel-preserved : goal.loop-channel-preserved
 loop-channel-preserved c =
-    let h : c.loop-channel.channel-index < length (map channel_row c.deref-mut-channel-items.result.now) = simp length-map c.loop-channel-test.true in
+    let h : c.loop-channel.channel-index < length (map channel_row c.deref_mut-channel-items.result.now) = simp length-map c.loop-channel-test.true in
     changed_more channel_row (renumbered_ends c.args.gone) _ _ _ c.channel-item.result _ h (omega (arith, c.loop-channel.auto.channel-items, c.loop-channel-test.true))
     c.loop-channel.invariant c.after_cut.ensures
 
 pub returns : goal.returns
 returns c =
-    let was = c.deref-mut-channel-items.result.now in
-    let same = c.deref-mut-channel-items.ensures.value in
+    let was = c.deref_mut-channel-items.result.now in
+    let same = c.deref_mut-channel-items.ensures.value in
     let all : length (map channel_row was) ≤ c.loop-channel.channel-index = simp length-map c.loop-channel-test.false in
     let made = changed_all (renumbered_ends c.args.gone) _ (map channel_row c.loop-channel.channel-items) _ all c.loop-channel.invariant in
     let long : length c.loop-channel.channel-items ≡ c.args.channels.now.len =

@@ -3,8 +3,8 @@ use Rattle.session.specs.Hands.{mark_or}
 use Rattle.session.proofs.Told.{edit_keeps_changing, edit_keeps_mark}
 use Rattle.session.proofs.session.Session.edit_with_own.Goals as goal
 
-pub invariant-of-self : goal.invariant-of-self
-invariant-of-self c =
+pub invariant_of-self : goal.invariant_of-self
+invariant_of-self c =
     let changing = edit_keeps_changing _ _ _ _ _ c.apply.ensures in
     let mark = edit_keeps_mark _ _ _ _ _ c.apply.ensures in (
       c.args.self.now.held ∙ sym changing,

@@ -7,8 +7,8 @@ use Rattle.session.specs.Sessions.{session_book}
 use Rattle.session.proofs.Told.{stray_accepted, end_refused, end_gives_back, end_tells_refused}
 use Rattle.session.proofs.session.Session.end_with_stray.Goals as goal
 
-pub invariant-of-self : goal.invariant-of-self
-invariant-of-self c =
+pub invariant_of-self : goal.invariant_of-self
+invariant_of-self c =
     let no = stray_accepted (session_book c.args.self.now) _ _ c.in_ok-other.ensures.2 ∙ c.requires in
     let same = (end_refused _ _ _ _ _ c.args.ending no c.finish.ensures).1 in
     let changing = ap (λ (b : Book). b.changing) same in

@@ -9,34 +9,26 @@ use Rattle.table.specs.Tables.{table_of}
 use Rattle.table.proofs.Tables.{fewer, not_fewer, next_number, channel_added_lem, channel_added_lawful}
 use Rattle.table.proofs.rows.Rows.add_channel.Goals as goal
 
-pub returns-then-number-ge-MOST-CHANNELS : goal.returns-then-number-ge-MOST-CHANNELS
-returns-then-number-ge-MOST-CHANNELS c =
+pub returns-then-number-ge-MOST_CHANNELS : goal.returns-then-number-ge-MOST_CHANNELS
+returns-then-number-ge-MOST_CHANNELS c =
     let rows = c.args.self.now in
     let row = channel_with c.args.writer c.args.reader c.args.writes.now c.args.reads.now c.args.ceiling in
     let len = c.len-number.ensures ∙ rows.channels.ok.0 in
     refused (add_channel row) (table_of rows) (table_of rows) TableFull
-    (sym (check_failed _ TableFull (channel_fault (table_of rows).actors row) (not_fewer channel_row (vec_items rows.channels) c.len-number.result len 128 c.if-number-ge-MOST-CHANNELS.true))) refl
+    (sym (check_failed _ TableFull (channel_fault (table_of rows).actors row) (not_fewer channel_row (vec_items rows.channels) c.len-number.result len 128 c.if-number-ge-MOST_CHANNELS.true))) refl
 
-pub invariant-of-self : goal.invariant-of-self
-invariant-of-self c =
+pub invariant_of-self : goal.invariant_of-self
+invariant_of-self c =
     let rows = c.args.self.now in
     let row = channel_with c.args.writer c.args.reader c.args.writes.now c.args.reads.now c.args.ceiling in
     let len = c.len-number.ensures ∙ rows.channels.ok.0 in
     let made = c.in-Ok.ensures in
     let good : channel_fault (table_of rows).actors row ≡ None = ap (λ (l : List Actor). channel_fault (map actor_row l) row) (sym c.as_slice.ensures.value) ∙ made.0 in
     let none : (add_channel row).fault (table_of rows) ≡ None =
-    check_from _ TableFull (channel_fault (table_of rows).actors row) (fewer channel_row (vec_items rows.channels) c.len-number.result len 128 c.if-number-ge-MOST-CHANNELS.false) good in
+    check_from _ TableFull (channel_fault (table_of rows).actors row) (fewer channel_row (vec_items rows.channels) c.len-number.result len 128 c.if-number-ge-MOST_CHANNELS.false) good in
     let cap = c.push_reserved.ensures.capacity in
-    let room = rows.channel_room in (
-      rows.actor_room,
-      (
-        omega arith,
-        (
-          channel_added_lawful (vec_items rows.actors) (vec_items rows.channels) rows.accepted row c.in-Ok.channel _ made.1 c.push_reserved.ensures.items none,
-          tt,
-        ),
-      ),
-    )
+    let room = rows.channel_room in
+    record { actor_room = rows.actor_room; channel_room = omega arith; accepted = channel_added_lawful (vec_items rows.actors) (vec_items rows.channels) rows.accepted row c.in-Ok.channel _ made.1 c.push_reserved.ensures.items none }
 
 pub returns-in-Ok : goal.returns-in-Ok
 returns-in-Ok c =
@@ -46,7 +38,7 @@ returns-in-Ok c =
     let made = c.in-Ok.ensures in
     let good : channel_fault (table_of rows).actors row ≡ None = ap (λ (l : List Actor). channel_fault (map actor_row l) row) (sym c.as_slice.ensures.value) ∙ made.0 in
     let none : (add_channel row).fault (table_of rows) ≡ None =
-    check_from _ TableFull (channel_fault (table_of rows).actors row) (fewer channel_row (vec_items rows.channels) c.len-number.result len 128 c.if-number-ge-MOST-CHANNELS.false) good in
+    check_from _ TableFull (channel_fault (table_of rows).actors row) (fewer channel_row (vec_items rows.channels) c.len-number.result len 128 c.if-number-ge-MOST_CHANNELS.false) good in
     granted (add_channel row) (table_of rows) _ _ none (next_number channel_row (vec_items rows.channels) c.len-number.result len)
     (channel_added_lem (vec_items rows.actors) (vec_items rows.channels) rows.accepted row c.in-Ok.channel _ made.1 c.push_reserved.ensures.items)
 
@@ -58,4 +50,4 @@ returns-in-Err c =
     let bad : channel_fault (table_of rows).actors row ≡ Some c.in-Err.fault =
     ap (λ (l : List Actor). channel_fault (map actor_row l) row) (sym c.as_slice.ensures.value) ∙ c.in-Err.ensures in
     refused (add_channel row) (table_of rows) (table_of rows) c.in-Err.fault
-    (sym (check_passed _ TableFull (channel_fault (table_of rows).actors row) _ (fewer channel_row (vec_items rows.channels) c.len-number.result len 128 c.if-number-ge-MOST-CHANNELS.false) (sym bad))) refl
+    (sym (check_passed _ TableFull (channel_fault (table_of rows).actors row) _ (fewer channel_row (vec_items rows.channels) c.len-number.result len 128 c.if-number-ge-MOST_CHANNELS.false) (sym bad))) refl

@@ -26,8 +26,8 @@ returns-then-not-is_unused c =
     (check_passed _ NoActor _ _ (there actor_row (vec_items rows.actors) c.len.result len c.args.number c.if-number-len.false)
     (check_failed _ ActorInUse None used))) refl
 
-pub invariant-of-self : goal.invariant-of-self
-invariant-of-self c =
+pub invariant_of-self : goal.invariant_of-self
+invariant_of-self c =
     let rows = c.args.self.now in
     let len = c.len.ensures ∙ rows.actors.ok.0 in
     let unused = ap (λ (l : List Channel). every (λ r. not (names c.args.number r)) (map channel_row l)) (sym c.as_slice.ensures.value) ∙ sym c.if-not-is_unused.ensures in
@@ -36,17 +36,8 @@ invariant-of-self c =
     let cap = c.remove.ensures.capacity in
     let cap_2 = c.renumber.ensures.capacity in
     let room = rows.actor_room in
-    let room_2 = rows.channel_room in (
-      omega arith,
-      (
-        omega arith,
-        (
-          actor_cut_lawful (vec_items rows.actors) (vec_items rows.channels) rows.accepted c.args.number _ _ c.remove.ensures.items
-              c.renumber.ensures.rows none,
-          tt,
-        ),
-      ),
-    )
+    let room_2 = rows.channel_room in
+    record { actor_room = omega arith; channel_room = omega arith; accepted = actor_cut_lawful (vec_items rows.actors) (vec_items rows.channels) rows.accepted c.args.number _ _ c.remove.ensures.items c.renumber.ensures.rows none }
 
 pub returns : goal.returns
 returns c =

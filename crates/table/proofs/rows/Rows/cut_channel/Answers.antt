@@ -15,22 +15,13 @@ returns-then-number-len c =
     refused (cut_channel c.args.number) (table_of rows) (table_of rows) NoChannel
     (sym (check_failed _ NoChannel None (not_there channel_row (vec_items rows.channels) c.len.result len c.args.number c.if-number-len.true))) refl
 
-pub invariant-of-self : goal.invariant-of-self
-invariant-of-self c =
+pub invariant_of-self : goal.invariant_of-self
+invariant_of-self c =
     let rows = c.args.self.now in
     let len = c.len.ensures ∙ rows.channels.ok.0 in
     let cap = c.remove.ensures.capacity in
-    let room = rows.channel_room in (
-      rows.actor_room,
-      (
-        omega arith,
-        (
-          channel_cut_lawful (vec_items rows.actors) (vec_items rows.channels) rows.accepted c.args.number _ c.remove.ensures.items
-              (check_from _ NoChannel None (there channel_row (vec_items rows.channels) c.len.result len c.args.number c.if-number-len.false) refl),
-          tt,
-        ),
-      ),
-    )
+    let room = rows.channel_room in
+    record { actor_room = rows.actor_room; channel_room = omega arith; accepted = channel_cut_lawful (vec_items rows.actors) (vec_items rows.channels) rows.accepted c.args.number _ c.remove.ensures.items (check_from _ NoChannel None (there channel_row (vec_items rows.channels) c.len.result len c.args.number c.if-number-len.false) refl) }
 
 pub returns : goal.returns
 returns c =
