@@ -16,7 +16,7 @@ returns c =
     let long = c.requires in
     let writes_end : c.writes_in-writes_end.result ≡ n = c.writes_in-writes_end.ensures ∙ ap writes_in head in
     let reads_end : c.reads_in.result ≡ m = c.reads_in.ensures ∙ ap reads_in head in
-    let count : c.writes_in_lem.result ≡ n = c.writes_in_lem.ensures ∙ ap writes_in head in
+    let count : c.writes_in.result ≡ n = c.writes_in.ensures ∙ ap writes_in head in
     let count2 : c.reads_in-2.result ≡ m = c.reads_in-2.ensures ∙ ap reads_in head in
     let from : c.writes_in-writes_end.result + 1 ≡ suc n = omega arith in
     let writes = list_read part c.contents-writes.result 1 n _ _ (suc n - 1) (omega arith) (omega arith) (omega arith) (omega arith) c.contents-writes.ensures in
@@ -25,5 +25,5 @@ returns c =
     c.contents-reads.ensures in
     subst (λ a. Does (add_channel a) (table_of c.args.rows.now) (table_of c.add_channel.new.self) c.add_channel.result)
     (channel_made part _ _ (c.writes_in-writes_end.result + 1 + c.reads_in.result) _ _ _ (c.writer_in.ensures ∙ ap writer_in head)
-    (c.reader_in_lem.ensures ∙ ap reader_in head) writes (reads ∙ ap (λ i. map content_of (take (suc n + m - suc n) (drop i part))) from) (omega arith) c.given.ensures)
+    (c.reader_in.ensures ∙ ap reader_in head) writes (reads ∙ ap (λ i. map content_of (take (suc n + m - suc n) (drop i part))) from) (omega arith) c.given.ensures)
     c.add_channel.ensures

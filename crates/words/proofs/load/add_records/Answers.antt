@@ -48,7 +48,7 @@ added-err c = elim c.match-record.branch [
       (ap (λ p. length p.0.now) w.added-is) (adds_channel_lem _ w.add_channel.ensures)
 ]
 
-added-ok : (c : goal.In-default) → Adds (table_of c.loop-head.rows) (table_of c.match-record.rows) (Ok c.in_default.field-0) (part_of c.in-Ok.record) (length c.match-record.added.0.now)
+added-ok : (c : goal.In_default) → Adds (table_of c.loop-head.rows) (table_of c.match-record.rows) (Ok c.in_default.field-0) (part_of c.in-Ok.record) (length c.match-record.added.0.now)
 added-ok c = elim c.match-record.branch [
   | in-Actor w ↦ same_adds _ _ _ _ _ _ _ _ _ (ap table_of w.rows-is) (sym c.in_default.is ∙ ap (λ p. p.1) w.added-is) (ap part_of w.in-Actor.is)
       (ap (λ p. length p.0.now) w.added-is) (adds_actor_lem _ w.add_actor.ensures)
