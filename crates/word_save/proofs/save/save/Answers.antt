@@ -38,8 +38,8 @@ write_rows-end-requires c =
     let length_is = ap length channels in
     (channels_fit t l c.channels.result.now c.channels.ensures, omega arith)
 
-pub overflow-cast-end : goal.overflow-cast-end
-overflow-cast-end c =
+pub overflow_cast-end : goal.overflow_cast-end
+overflow_cast-end c =
     let rows = c.args.rows.now in
     let t = table_of rows in
     let l = rows.accepted in

@@ -19,16 +19,16 @@ size_of-requires-2 c =
     let b = ap length (row_words_lem channel_row channel_words c.channels.result.now _ c.channels.ensures) in
     omega arith
 
-pub overflow-add-result : goal.overflow-add-result
-overflow-add-result c =
+pub overflow_add-result : goal.overflow_add-result
+overflow_add-result c =
     let rows = c.args.rows.now in
     let few = sizes_few (table_of rows) rows.accepted in
     let a = c.size_of.ensures ∙ ap length (row_words_lem actor_row actor_words c.actors.result.now _ c.actors.ensures) in
     let b = c.size_of-2.ensures ∙ ap length (row_words_lem channel_row channel_words c.channels.result.now _ c.channels.ensures) in
     omega arith
 
-pub overflow-add-result-2 : goal.overflow-add-result-2
-overflow-add-result-2 c =
+pub overflow_add-result-2 : goal.overflow_add-result-2
+overflow_add-result-2 c =
     let rows = c.args.rows.now in
     let few = sizes_few (table_of rows) rows.accepted in
     let a = c.size_of.ensures ∙ ap length (row_words_lem actor_row actor_words c.actors.result.now _ c.actors.ensures) in

@@ -4,8 +4,8 @@ use Rattle.std.proofs.lemmas.List.{take_all}
 use Rattle.word_save.proofs.Written.{joined_next, joined_room}
 use Rattle.word_save.proofs.save.size_of.Goals as goal
 
-pub overflow-add-size : goal.overflow-add-size
-overflow-add-size g c =
+pub overflow_add-size : goal.overflow_add-size
+overflow_add-size g c =
     let room = joined_room g.T.Encode.words c.args.rows.now c.loop-row.row-index c.row-item.result c.loop-row-test.true c.row-item.is in
     let so_far = c.loop-row.invariant in let one = c.size-size.ensures in let all = c.requires in omega arith
 

@@ -7,13 +7,13 @@ use Rattle.words.specs.Format.{word_of, option_words}
 use Rattle.word_save.proofs.Written.{record_length}
 use Rattle.word_save.proofs.save.ActorEncode.size.Goals as goal
 
-pub overflow-add-result-2 : goal.overflow-add-result-2
-overflow-add-result-2 c =
+pub overflow_add-result-2 : goal.overflow_add-result-2
+overflow_add-result-2 c =
     let times = c.args.self.now.times in
     let n = ap length c.as_slice.ensures ∙ length_listed times in let few = times.few in let a = c.option_size.ensures.few in omega arith
 
-pub overflow-add-result-3 : goal.overflow-add-result-3
-overflow-add-result-3 c =
+pub overflow_add-result-3 : goal.overflow_add-result-3
+overflow_add-result-3 c =
     let times = c.args.self.now.times in
     let n = ap length c.as_slice.ensures ∙ length_listed times in
     let few = times.few in let a = c.option_size.ensures.few in let b = c.option_size-2.ensures.few in omega arith
