@@ -2,4 +2,3 @@
 // contracts of the calls that name them.
 
 #![tactic(auto)]
-
