@@ -14,6 +14,6 @@ returns c =
     let pin = c.pin_of.ensures in
     let after = string_bytes c.push_last.new.out in
     IfOk-weaker c.push_last.result (λ _. after ≡ string_bytes c.push_option.new.out ++ last_text (codes " pin ") c.pin_of.result) (λ _. after ≡ bs ++ actor_text row)
-    (λ _ p. three bs (list_text (codes "actor times") row.times) (option_text (codes " not_before ") row.not_before) (last_text (codes " pin ") (pin_of row.placement))
+    (λ _ p. three bs (list_text (codes "actor times") row.times) (option_text (codes " not-before ") row.not_before) (last_text (codes " pin ") (pin_of row.placement))
     _ _ after one two (p ∙ ap (λ o. string_bytes c.push_option.new.out ++ last_text (codes " pin ") o) pin))
     c.push_last.ensures

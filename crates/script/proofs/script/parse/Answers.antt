@@ -17,7 +17,7 @@ returns-in_err-read_at c =
     let s = sofar_of c.loop-i.reader in
     let i = c.loop-i.i in
     let line = between c.loop-i.start i xs in
-    let p = err_from_is_err_and c.from-residual.result c.from-residual.ensures.1 in
+    let p = err_from_is_err_and c.from_residual.result c.from_residual.ensures.1 in
     rw (p.1, p.2)
     (subst (FailsAt c.in_err-read_at.field-0.0) (sym (at_feed xs n s line i c.loop-i-test.true (search rules)) ∙ c.loop-i.invariant.2)
     (then_fails c.in_err-read_at.field-0.0 (read xs n s line i) _ c.in_err-read_at.ensures))
@@ -34,7 +34,7 @@ loop-i-preserved c =
     elim c.if-b-eq-LINE_FEED.branch [
       | then-b-eq-LINE_FEED+in_ok-read_at w ↦
           let none : between c.if-b-eq-LINE_FEED.start (i + 1) xs ≡ [] = ap (λ k. between k (i + 1) xs) w.start-is ∙ between_none xs (i + 1) in
-          let same : sofar_of c.if-b-eq-LINE_FEED.reader ≡ sofar_of w.read_at.new.self = ap sofar_of w.reader_is in
+          let same : sofar_of c.if-b-eq-LINE_FEED.reader ≡ sofar_of w.read_at.new.self = ap sofar_of w.reader-is in
           let went = then_ok (read xs n s line i) (λ t. lines_read (n + 1) t (lines_from [] (drop (i + 1) xs))) _ w.in_ok-read_at.ensures in (
             omega (arith, w.start-is),
             omega (arith, w.number-is),
@@ -44,7 +44,7 @@ loop-i-preserved c =
       | else-b-eq-LINE_FEED w ↦
           let more : between c.if-b-eq-LINE_FEED.start (i + 1) xs ≡ line ++ get_or xs i 0 ∷ [] =
           ap (λ k. between k (i + 1) xs) w.start-is ∙ between_more xs c.loop-i.start i 0 inv.0 h in
-          let same : sofar_of c.if-b-eq-LINE_FEED.reader ≡ s = ap sofar_of w.reader_is in (
+          let same : sofar_of c.if-b-eq-LINE_FEED.reader ≡ s = ap sofar_of w.reader-is in (
             omega (arith, w.start-is),
             omega (arith, w.number-is),
             (λ j. lines_read (w.number-is j) (same j) (lines_from (more j) (drop (i + 1) xs)))
@@ -61,7 +61,7 @@ returns-in_err-read_at-2 c =
     let all : i ≡ length xs = omega arith in
     let line = between c.loop-i.start i xs in
     let f = c.in_err-read_at-2.field-0.0 in
-    let p = err_from_is_err_and c.from-residual-in_err-read_at-2.result c.from-residual-in_err-read_at-2.ensures.1 in
+    let p = err_from_is_err_and c.from_residual-in_err-read_at-2.result c.from_residual-in_err-read_at-2.ensures.1 in
     rw (p.1, p.2)
     (subst (FailsAt f) (sym (at_end xs n s line i c.loop-i-test.false) ∙ c.loop-i.invariant.2)
     (then_fails f (read xs n s line i) _

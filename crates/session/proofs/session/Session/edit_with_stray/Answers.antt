@@ -6,7 +6,5 @@ use Rattle.session.proofs.session.Session.edit_with_stray.Goals as goal
 pub invariant_of-self : goal.invariant_of-self
 invariant_of-self c =
     let changing = edit_keeps_changing _ _ _ _ _ c.apply-answer.ensures in
-    let mark = edit_keeps_mark _ _ _ _ _ c.apply-answer.ensures in (
-      c.args.self.now.held ∙ sym changing,
-      (ap (mark_or c.args.self.now.hand) mark ∙ c.args.self.now.same ∙ sym mark, tt),
-    )
+    let mark = edit_keeps_mark _ _ _ _ _ c.apply-answer.ensures in
+    record { held = c.args.self.now.held ∙ sym changing; same = ap (mark_or c.args.self.now.hand) mark ∙ c.args.self.now.same ∙ sym mark }

@@ -12,10 +12,8 @@ invariant_of-self c =
     let no = stray_accepted (session_book c.args.self.now) _ _ c.in_ok-other.ensures.2 ∙ c.requires in
     let same = (end_refused _ _ _ _ _ c.args.ending no c.finish.ensures).1 in
     let changing = ap (λ (b : Book). b.changing) same in
-    let mark = ap (λ (b : Book). b.mark) same in (
-      c.args.self.now.held ∙ sym changing,
-      (ap (mark_or c.args.self.now.hand) mark ∙ c.args.self.now.same ∙ sym mark, tt),
-    )
+    let mark = ap (λ (b : Book). b.mark) same in
+    record { held = c.args.self.now.held ∙ sym changing; same = ap (mark_or c.args.self.now.hand) mark ∙ c.args.self.now.same ∙ sym mark }
 
 pub hand_in-requires : goal.hand_in-requires
 hand_in-requires c =
