@@ -1,4 +1,4 @@
-use Rattle.std.proofs.Common.{◌≡◌, Some, None, vec_items, sym, refl, ap, ◌∙◌, arith}
+use Rattle.std.proofs.Common.{◌≡◌, None, vec_items, sym, refl, ◌∙◌, arith}
 use Rattle.rows.specs.declared.fault.Fault.TheVariants.{TableFull}
 use Rattle.rows.specs.Table.{actor_with, actor_fault, add_actor}
 use Rattle.rows.specs.Values.{actor_row}

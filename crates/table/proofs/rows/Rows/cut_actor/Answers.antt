@@ -1,7 +1,7 @@
-use Rattle.std.proofs.Common.{◌≡◌, true, not, List, map, None, vec_items, sym, refl, ap, ◌∙◌, arith}
+use Rattle.std.proofs.Common.{◌≡◌, not, List, map, None, vec_items, sym, refl, ap, ◌∙◌, arith}
 use Rattle.rows.specs.declared.fault.Fault.TheVariants.{NoActor, ActorInUse}
 use Rattle.rows.specs.declared.row.Channel.{Channel}
-use Rattle.rows.specs.Table.{check, every, names, cut_actor}
+use Rattle.rows.specs.Table.{every, names, cut_actor}
 use Rattle.rows.specs.Values.{actor_row, channel_row}
 use Rattle.rows.proofs.Parts.{check_from, check_passed, check_failed}
 use Rattle.rows.proofs.Steps.{granted, refused}

@@ -1,4 +1,4 @@
-use Rattle.std.proofs.Common.{◌≡◌, None, vec_items, sym, refl, ◌∙◌, arith}
+use Rattle.std.proofs.Common.{None, vec_items, sym, refl, ◌∙◌, arith}
 use Rattle.rows.specs.declared.fault.Fault.TheVariants.{NoChannel}
 use Rattle.rows.specs.Table.{cut_channel}
 use Rattle.rows.specs.Values.{channel_row}
