@@ -7,7 +7,7 @@ use Rattle.rows.proofs.Parts.{check_from, check_passed, check_failed}
 use Rattle.rows.proofs.Steps.{granted, refused}
 use Rattle.table.specs.Tables.{table_of}
 use Rattle.table.proofs.Tables.{there, not_there, actor_cut_lem, actor_cut_lawful}
-use Rattle.table.proofs.rows.Rows.cut_actor.Goals as goal
+use Rattle.table.proofs.storage.Rows.cut_actor.Goals as goal
 
 pub returns-then-number-len : goal.returns-then-number-len
 returns-then-number-len c =
