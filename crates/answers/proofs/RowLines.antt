@@ -1,5 +1,5 @@
 -- The line of a row: its words, and the call that it makes.
-use Rattle.std.proofs.Common.{◌≡◌, ℕ, Bool, true, ◌&&◌, List, [], ◌∷◌, ◌++◌, map, Some, None, Ok, Err, codes, decimal, Option, Result, sym, refl, ap, ◌∙◌, append_assoc, append-nil}
+use Rattle.std.proofs.Common.{◌≡◌, ℕ, Bool, true, List, [], ◌∷◌, ◌++◌, map, Some, None, Ok, codes, decimal, Option, Result, sym, refl, ap, ◌∙◌, append_assoc, append-nil}
 use Rattle.std.specs.List.{flat_map}
 use Rattle.std.proofs.lemmas.List.{map-append}
 use Rattle.std.proofs.lemmas.Bool.{and_from}
@@ -9,7 +9,7 @@ use Rattle.rows.specs.Table.{ActorRow, ChannelRow, actor_with, channel_with}
 use Rattle.tokens.specs.declared.token.Token.{Token}
 use Rattle.tokens.specs.declared.token.Token.TheVariants.{Number, Actor, Times, NotBefore, Pin, Channel, Writes, Reads, Ceiling}
 use Rattle.tokens.specs.declared.expected.Expected.{Expected}
-use Rattle.tokens.specs.Tokens.{token_of, as_number}
+use Rattle.tokens.specs.Tokens.{token_of}
 use Rattle.tokens.specs.Lines.{tokens_of, lines_from}
 use Rattle.script.specs.Reading.{Reading, and_then, this_word, first_number, numbers_from, number_if, ended}
 use Rattle.script.specs.Plain.{PlainEdit, PlainCall, actor_added, channel_added, edited}

@@ -1,5 +1,5 @@
 -- The script that adds each row of a table.
-use Rattle.std.specs.Prelude.{List, ◌++◌, map}
+use Rattle.std.specs.Prelude.{◌++◌, map}
 use Rattle.rows.specs.Table.{ActorRow, ChannelRow, Table}
 use Rattle.script.specs.Plain.{PlainCall, actor_added, channel_added, edited}
 use Rattle.script.specs.Scripts.{PlainScript}

@@ -12,7 +12,7 @@ use rows::fault::Fault;
 use rows::row::{Actor, Channel, Placement};
 use session::calls::Answer;
 use std::alloc::{AllocError, Global};
-use table::rows::Rows;
+use table::storage::Rows;
 
 // The text of all the answers.
 pub fn answers_text(heap: Global, answers: &[Answer]) -> Result<String, AllocError>

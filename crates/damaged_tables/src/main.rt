@@ -8,7 +8,7 @@ ghost use Rattle.words.specs.Loads.{table_read};
 ghost use Rattle.damaged_tables.specs.Told.{told_of};
 
 use std::alloc::{AllocError, Global};
-use table::rows::Rows;
+use table::storage::Rows;
 use word_save::save::{save, saved};
 use words::load::load;
 

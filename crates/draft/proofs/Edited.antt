@@ -1,10 +1,10 @@
 -- An edit of the working rows, seen as a step of the book.
-use Rattle.std.proofs.Common.{◌≡◌, ℕ, Bool, true, false, cond, eqb, Some, None, Option, Result, sym, refl, ap, ◌∙◌, arith}
+use Rattle.std.proofs.Common.{◌≡◌, ℕ, Bool, true, false, cond, Some, None, Option, Result, sym, refl, ap, ◌∙◌, arith}
 use Rattle.std.proofs.lemmas.Bool.{cond-true}
 use Rattle.rows.specs.declared.fault.Fault.{Fault}
 use Rattle.rows.specs.declared.fault.Fault.TheVariants.{TicketRefused}
 use Rattle.rows.specs.Steps.{Step, Does, answer, leaves}
-use Rattle.rows.specs.Table.{Table, check}
+use Rattle.rows.specs.Table.{Table}
 use Rattle.draft.specs.Book.{Book, accepts, editing}
 
 abbrev with_working : Book → Table → Book

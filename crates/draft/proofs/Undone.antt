@@ -1,5 +1,5 @@
 -- What a caller who opens a change may count on: the ticket is accepted, and a withdrawn change leaves no trace.
-use Rattle.std.proofs.Common.{◌≡◌, ℕ, Bool, true, false, cond, Ok, sym, refl, ap, ◌∙◌, arith}
+use Rattle.std.proofs.Common.{◌≡◌, ℕ, Bool, true, false, cond, Ok, ap, ◌∙◌, arith}
 use Rattle.std.proofs.lemmas.Bool.{eq-eqb}
 use Rattle.rows.specs.Steps.{Does}
 use Rattle.rows.specs.Table.{Table}

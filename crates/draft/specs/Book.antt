@@ -1,5 +1,5 @@
 -- The plain book of a draft: what each call does to it, and what it answers.
-use Rattle.std.specs.Prelude.{ℕ, Bool, true, false, not, ◌&&◌, None, Option, ◌==◌}
+use Rattle.std.specs.Prelude.{ℕ, Bool, true, false, not, ◌&&◌, None, ◌==◌}
 use Rattle.std.specs.Option.{option_map}
 use Rattle.rows.specs.declared.fault.Fault.{Fault}
 use Rattle.rows.specs.declared.fault.Fault.TheVariants.{ChangeOpen, TicketRefused}

@@ -8,7 +8,7 @@ use crate::draft::Draft;
 use crate::ticket::{Returned, Ticket};
 use rows::fault::Fault;
 use std::alloc::{AllocError, Global};
-use table::rows::Rows;
+use table::storage::Rows;
 
 impl Draft {
     // An empty draft with a mark. It takes here all the memory that it ever needs.

@@ -1,5 +1,5 @@
 // A draft: the rows that are edited, and the rows to go back to while a change is open.
-use table::rows::Rows;
+use table::storage::Rows;
 
 #[derive(Drop)]
 pub struct Draft {

@@ -9,7 +9,7 @@ ghost use Rattle.draft.specs.Drafts.{book_of};
 use crate::draft::Draft;
 use rows::fault::Fault;
 use rows::row::{Actor, Channel};
-use table::rows::Rows;
+use table::storage::Rows;
 
 impl Draft {
     pub fn mark(&self) -> u32

@@ -1,5 +1,5 @@
 -- How a step ends, where its checks are known to pass or to fail.
-use Rattle.std.proofs.Common.{◌≡◌, ℕ, Some, None, Ok, Err, Option, Result, sym, refl, ap, arith}
+use Rattle.std.proofs.Common.{◌≡◌, ℕ, Some, None, Ok, Err, Option, refl, ap, arith}
 use Rattle.rows.specs.Steps.{Step, Does, answer, leaves}
 
 module _ {F S V : Type 0} (step : Step F S V) (was : S) where

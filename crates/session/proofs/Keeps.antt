@@ -1,8 +1,8 @@
 -- The standing rows are those that the granted edits of kept changes make.
-use Rattle.std.proofs.Common.{◌≡◌, ℕ, Bool, true, false, cond, not, ◌&&◌, eqb, List, [], ◌∷◌, ◌++◌, Some, None, Option, sym, refl, ap, ◌∙◌, arith}
+use Rattle.std.proofs.Common.{◌≡◌, ℕ, Bool, true, false, cond, eqb, List, [], ◌∷◌, ◌++◌, Some, None, Option, sym, refl, ap, ◌∙◌, arith}
 use Rattle.rows.specs.declared.fault.Fault.{Fault}
-use Rattle.rows.specs.declared.fault.Fault.TheVariants.{ChangeOpen, TicketRefused}
-use Rattle.rows.specs.Steps.{Step, leaves}
+use Rattle.rows.specs.declared.fault.Fault.TheVariants.{TicketRefused}
+use Rattle.rows.specs.Steps.{leaves}
 use Rattle.rows.specs.Table.{Table, empty_table, check}
 use Rattle.rows.proofs.Parts.{check_parts}
 use Rattle.std.proofs.lemmas.Bool.{and_parts}
@@ -12,7 +12,7 @@ use Rattle.session.specs.declared.calls.Edit.TheVariants.{AddActor, AddChannel, 
 use Rattle.session.specs.declared.calls.Ending.TheVariants.{Keep, Withdraw}
 use Rattle.session.specs.declared.calls.Call.{Call}
 use Rattle.session.specs.declared.calls.Call.TheVariants.{Open, End, Edit as EditCall, Rows as RowsCall}
-use Rattle.session.specs.Calls.{Said, done, refused, or_refused, edit_step, call_step, says, next, answers, book_after}
+use Rattle.session.specs.Calls.{done, or_refused, edit_step, says, next, answers, book_after}
 use Rattle.session.specs.Kept.{is_refused, kept_edits, edited}
 
 edited-++ : (t : Table) (es fs : List Edit) → edited t (es ++ fs) ≡ edited (edited t es) fs

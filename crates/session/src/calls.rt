@@ -1,7 +1,7 @@
 // The calls that a run takes, and their answers.
 use rows::fault::Fault;
 use rows::row::Placement;
-use table::rows::Rows;
+use table::storage::Rows;
 
 // An edit of the rows.
 #[derive(Drop)]

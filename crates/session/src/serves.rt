@@ -14,7 +14,7 @@ use draft::draft::Draft;
 use draft::ticket::{Returned, Ticket};
 use rows::fault::Fault;
 use std::alloc::{AllocError, Global};
-use table::rows::Rows;
+use table::storage::Rows;
 
 impl Session {
     // A session on a new draft of this mark.

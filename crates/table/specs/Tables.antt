@@ -1,6 +1,6 @@
 -- The table that the program's rows stand for.
 use Rattle.std.specs.Prelude.{vec_items}
-use Rattle.table.specs.declared.rows.Rows.{Rows}
+use Rattle.table.specs.declared.storage.Rows.{Rows}
 use Rattle.rows.specs.Table.{Table}
 use Rattle.rows.specs.Values.{table_from}
 

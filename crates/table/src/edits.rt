@@ -5,7 +5,7 @@ ghost use Rattle.rows.specs.Table.{actor_with, channel_with, every, names, renum
 ghost use Rattle.rows.specs.Values.{channel_row};
 ghost use Rattle.table.specs.Tables.{table_of};
 
-use crate::rows::Rows;
+use crate::storage::Rows;
 use rows::fault::Fault;
 use rows::row::{Actor, Channel, Placement};
 

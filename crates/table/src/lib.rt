@@ -4,4 +4,4 @@
 
 pub mod edits;
 pub mod reads;
-pub mod rows;
+pub mod storage;

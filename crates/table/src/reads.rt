@@ -5,7 +5,7 @@ ghost use Rattle.rows.specs.Table.{empty_table, at};
 ghost use Rattle.table.specs.Tables.{table_of};
 ghost use Rattle.rows.specs.Values.{actor_row, channel_row};
 
-use crate::rows::Rows;
+use crate::storage::Rows;
 use rows::fault::Fault;
 use rows::row::{Actor, Channel};
 use std::alloc::{AllocError, Global};

@@ -12,7 +12,7 @@ ghost use Rattle.word_save.specs.Saves.{written, saving};
 use crate::fault::SaveFault;
 use rows::row::{Actor, Channel};
 use std::alloc::{AllocError, Global};
-use table::rows::Rows;
+use table::storage::Rows;
 use words::word::{ACTOR, CEILING, CHANNEL, CONTENTS, END, NOT_BEFORE, NUMBER, PIN};
 
 // How many words the rows take, the end included.

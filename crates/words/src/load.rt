@@ -12,7 +12,7 @@ use crate::record::{Record, given, past, reads_in, writes_in};
 use crate::word::{CEILING, NOT_BEFORE, PIN, content_of};
 use rows::fault::Fault;
 use rows::row::Placement;
-use table::rows::Rows;
+use table::storage::Rows;
 
 // Adds the rows of a whole table of words to a table without rows, or leaves that as it is.
 pub fn load(rows: &mut Rows, words: &[u32]) -> Result<usize, LoadFault>

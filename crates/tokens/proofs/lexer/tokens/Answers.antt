@@ -1,8 +1,8 @@
-use Rattle.std.proofs.Common.{◌≡◌, ◌+◌, ◌<◌, true, false, eqb, [], ◌∷◌, ◌++◌, length, get_or, drop, vec_items, sym, ap, ◌∙◌, arith, rules}
+use Rattle.std.proofs.Common.{◌≡◌, ◌+◌, ◌<◌, false, eqb, [], ◌∷◌, ◌++◌, length, get_or, drop, vec_items, sym, ap, ◌∙◌, arith, rules}
 use Rattle.std.specs.List.{between}
 use Rattle.std.proofs.lemmas.List.Edits.{between_none, between_more}
 use Rattle.std.proofs.lemmas.List.{at_drop_all}
-use Rattle.tokens.specs.Lines.{with_word, tokens_from, tokens_of}
+use Rattle.tokens.specs.Lines.{with_word, tokens_from}
 use Rattle.tokens.proofs.Words.{at_comment, at_blank, at_letter}
 use Rattle.tokens.proofs.lexer.tokens.Goals as goal
 use Rattle.tokens.proofs.lexer.tokens.Goals.{then-is_blank+in_ok-push_word, else-is_blank, then-loop-i-test+else-line-i-ne-COMMENT, else-loop-i-test}

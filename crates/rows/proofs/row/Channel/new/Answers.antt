@@ -1,4 +1,4 @@
-use Rattle.std.proofs.Common.{◌≡◌, None, sym}
+use Rattle.std.proofs.Common.{sym}
 use Rattle.rows.specs.Table.{channel_with}
 use Rattle.rows.proofs.Parts.{few_writes, few_reads}
 use Rattle.rows.proofs.row.Channel.new.Goals as goal

@@ -1,4 +1,4 @@
-use Rattle.std.proofs.Common.{◌≡◌, ◌<◌, true, length, is_some, sym, ap, ◌∙◌, rules}
+use Rattle.std.proofs.Common.{◌<◌, length, is_some, sym, ap, ◌∙◌, rules}
 use Rattle.std.proofs.lemmas.Bool.{cond-true}
 use Rattle.script.specs.Reading.{tail, first_number}
 use Rattle.script.proofs.Fronts.{tail_is, number_first}

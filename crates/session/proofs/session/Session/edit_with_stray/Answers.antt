@@ -1,4 +1,4 @@
-use Rattle.std.proofs.Common.{ℕ, sym, ap, ◌∙◌}
+use Rattle.std.proofs.Common.{sym, ap, ◌∙◌}
 use Rattle.session.specs.Hands.{mark_or}
 use Rattle.session.proofs.Told.{edit_keeps_changing, edit_keeps_mark}
 use Rattle.session.proofs.session.Session.edit_with_stray.Goals as goal

@@ -1,7 +1,7 @@
-use Rattle.std.proofs.Common.{◌≡◌, sym, ap, ◌∙◌}
+use Rattle.std.proofs.Common.{sym, ap, ◌∙◌}
 use Rattle.draft.specs.declared.ticket.Ticket.{Ticket}
 use Rattle.draft.specs.Book.{Book}
-use Rattle.session.specs.Calls.{Tells, done, refused, saying, end_step}
+use Rattle.session.specs.Calls.{refused}
 use Rattle.session.specs.Hands.{mark_or}
 use Rattle.session.specs.Sessions.{session_book}
 use Rattle.session.proofs.Told.{stray_accepted, end_refused, end_gives_back, end_tells_refused}

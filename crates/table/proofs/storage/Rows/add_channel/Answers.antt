@@ -7,7 +7,7 @@ use Rattle.rows.proofs.Parts.{check_from, check_passed, check_failed}
 use Rattle.rows.proofs.Steps.{granted, refused}
 use Rattle.table.specs.Tables.{table_of}
 use Rattle.table.proofs.Tables.{fewer, not_fewer, next_number, channel_added_lem, channel_added_lawful}
-use Rattle.table.proofs.rows.Rows.add_channel.Goals as goal
+use Rattle.table.proofs.storage.Rows.add_channel.Goals as goal
 
 pub returns-then-number-ge-MOST_CHANNELS : goal.returns-then-number-ge-MOST_CHANNELS
 returns-then-number-ge-MOST_CHANNELS c =

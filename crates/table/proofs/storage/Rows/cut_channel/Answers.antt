@@ -1,4 +1,4 @@
-use Rattle.std.proofs.Common.{◌≡◌, None, vec_items, sym, refl, ◌∙◌, arith}
+use Rattle.std.proofs.Common.{None, vec_items, sym, refl, ◌∙◌, arith}
 use Rattle.rows.specs.declared.fault.Fault.TheVariants.{NoChannel}
 use Rattle.rows.specs.Table.{cut_channel}
 use Rattle.rows.specs.Values.{channel_row}
@@ -6,7 +6,7 @@ use Rattle.rows.proofs.Parts.{check_from, check_failed}
 use Rattle.rows.proofs.Steps.{granted, refused}
 use Rattle.table.specs.Tables.{table_of}
 use Rattle.table.proofs.Tables.{there, not_there, channel_cut_lem, channel_cut_lawful}
-use Rattle.table.proofs.rows.Rows.cut_channel.Goals as goal
+use Rattle.table.proofs.storage.Rows.cut_channel.Goals as goal
 
 pub returns-then-number-len : goal.returns-then-number-len
 returns-then-number-len c =

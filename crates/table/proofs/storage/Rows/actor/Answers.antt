@@ -1,7 +1,7 @@
 use Rattle.std.proofs.Common.{vec_items, refl, rules}
 use Rattle.rows.specs.Values.{actor_row}
 use Rattle.rows.proofs.Places.{at_found, at_none}
-use Rattle.table.proofs.rows.Rows.actor.Goals as goal
+use Rattle.table.proofs.storage.Rows.actor.Goals as goal
 
 pub returns-in-Some : goal.returns-in-Some
 returns-in-Some c =

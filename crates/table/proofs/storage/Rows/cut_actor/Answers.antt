@@ -1,13 +1,13 @@
-use Rattle.std.proofs.Common.{◌≡◌, true, not, List, map, None, vec_items, sym, refl, ap, ◌∙◌, arith}
+use Rattle.std.proofs.Common.{◌≡◌, not, List, map, None, vec_items, sym, refl, ap, ◌∙◌, arith}
 use Rattle.rows.specs.declared.fault.Fault.TheVariants.{NoActor, ActorInUse}
 use Rattle.rows.specs.declared.row.Channel.{Channel}
-use Rattle.rows.specs.Table.{check, every, names, cut_actor}
+use Rattle.rows.specs.Table.{every, names, cut_actor}
 use Rattle.rows.specs.Values.{actor_row, channel_row}
 use Rattle.rows.proofs.Parts.{check_from, check_passed, check_failed}
 use Rattle.rows.proofs.Steps.{granted, refused}
 use Rattle.table.specs.Tables.{table_of}
 use Rattle.table.proofs.Tables.{there, not_there, actor_cut_lem, actor_cut_lawful}
-use Rattle.table.proofs.rows.Rows.cut_actor.Goals as goal
+use Rattle.table.proofs.storage.Rows.cut_actor.Goals as goal
 
 pub returns-then-number-len : goal.returns-then-number-len
 returns-then-number-len c =

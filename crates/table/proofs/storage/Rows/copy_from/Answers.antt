@@ -1,6 +1,6 @@
 use Rattle.std.proofs.Common.{vec_items, arith}
 use Rattle.table.proofs.Tables.{few_actors, few_channels}
-use Rattle.table.proofs.rows.Rows.copy_from.Goals as goal
+use Rattle.table.proofs.storage.Rows.copy_from.Goals as goal
 
 pub refill-requires : goal.refill-requires
 refill-requires c =

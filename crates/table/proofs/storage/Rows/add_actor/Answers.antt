@@ -1,4 +1,4 @@
-use Rattle.std.proofs.Common.{◌≡◌, Some, None, vec_items, sym, refl, ap, ◌∙◌, arith}
+use Rattle.std.proofs.Common.{◌≡◌, None, vec_items, sym, refl, ◌∙◌, arith}
 use Rattle.rows.specs.declared.fault.Fault.TheVariants.{TableFull}
 use Rattle.rows.specs.Table.{actor_with, actor_fault, add_actor}
 use Rattle.rows.specs.Values.{actor_row}
@@ -6,7 +6,7 @@ use Rattle.rows.proofs.Parts.{check_from, check_passed, check_failed}
 use Rattle.rows.proofs.Steps.{granted, refused}
 use Rattle.table.specs.Tables.{table_of}
 use Rattle.table.proofs.Tables.{fewer, not_fewer, next_number, actor_added_lem, actor_added_lawful}
-use Rattle.table.proofs.rows.Rows.add_actor.Goals as goal
+use Rattle.table.proofs.storage.Rows.add_actor.Goals as goal
 
 pub returns-then-number-ge-MOST_ACTORS : goal.returns-then-number-ge-MOST_ACTORS
 returns-then-number-ge-MOST_ACTORS c =
