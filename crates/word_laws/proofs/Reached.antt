@@ -1,6 +1,6 @@
 -- The records of words, one after the other, whether or not the checks accept their rows.
 use Rattle.std.proofs.Common.{◌≡◌, ℕ, suc, ◌+◌, ◌<◌, ◌≤◌, Bool, true, false, eqb, List, [], ◌∷◌, ◌++◌, length, take, drop, Some, None, Ok, Err, sym, refl, ap, ◌∙◌, subst, append_assoc, arith, length-append}
-use Rattle.std.specs.List.{flat_map, AllByRecursion as All, between}
+use Rattle.std.specs.List.{flat_map, AllByRecursion, between}
 use Rattle.std.proofs.lemmas.List.{take_all, take_at}
 use Rattle.std.proofs.lemmas.Bool.{lt-ltb, eq-eqb, ne_eqb, cond-true}
 use Rattle.rows.specs.Steps.{answer}
@@ -69,7 +69,7 @@ reached_alike n ws vs alike b h (past_channel c i part r e) l =
 abbrev end_words : ℕ → List ℕ
 end_words z = word_of 7 z ∷ []
 
-actors_over : (rows : List ActorRow) (more : List ℕ) → All ActorFits rows → Over more → Over (flat_map actor_words rows ++ more)
+actors_over : (rows : List ActorRow) (more : List ℕ) → AllByRecursion ActorFits rows → Over more → Over (flat_map actor_words rows ++ more)
 actors_over [] more f o = o
 actors_over (a ∷ rows) more f o =
     let few = f.0.few in
@@ -77,12 +77,12 @@ actors_over (a ∷ rows) more f o =
     let low : n < 268435456 = omega arith in
     over_head 1 n _ (lt-ltb n 268435456 low) refl refl refl
 
-channels_over : (cs : List ChannelRow) (more : List ℕ) → All ChannelFits cs → Over more → Over (flat_map channel_words cs ++ more)
+channels_over : (cs : List ChannelRow) (more : List ℕ) → AllByRecursion ChannelFits cs → Over more → Over (flat_map channel_words cs ++ more)
 channels_over [] more f o = o
 channels_over (c ∷ cs) more f o = over_head 2 (ends c) _ (ends_fit c f.0) refl refl refl
 
 module _ (ws : List ℕ) (z : ℕ) (low : small z ≡ true) where
-  channels_end : (b : Bool) (h : ℕ) (cs : List ChannelRow) → All ChannelFits cs → drop h ws ≡ flat_map channel_words cs ++ end_words z
+  channels_end : (b : Bool) (h : ℕ) (cs : List ChannelRow) → AllByRecursion ChannelFits cs → drop h ws ≡ flat_map channel_words cs ++ end_words z
       → z ≡ h + length (flat_map channel_words cs) → Ends ws b h
   channels_end b h [] f e z_is =
       let same : z ≡ h = omega arith in
@@ -96,7 +96,7 @@ module _ (ws : List ℕ) (z : ℕ) (low : small z ≡ true) where
       after_channel_lem b h part (channel_read c f.0 b ws h more from (channels_over cs (end_words z) f.1 (over_head 7 z [] low refl refl refl)))
       (channels_end true (h + length part) cs f.1 (drop_past ws h (h + length part) part more from refl) z_more)
 
-  actors_end : (h : ℕ) (rows : List ActorRow) (cs : List ChannelRow) → All ActorFits rows → All ChannelFits cs
+  actors_end : (h : ℕ) (rows : List ActorRow) (cs : List ChannelRow) → AllByRecursion ActorFits rows → AllByRecursion ChannelFits cs
       → drop h ws ≡ flat_map actor_words rows ++ (flat_map channel_words cs ++ end_words z)
       → z ≡ h + length (flat_map actor_words rows) + length (flat_map channel_words cs) → Ends ws false h
   actors_end h [] cs f g e z_is =

@@ -1,6 +1,6 @@
 -- What a refusal says of the words, without the steps of reading them.
 use Rattle.std.specs.Prelude.{◌≡◌, ℕ, suc, ◌<◌, ◌≤◌, true, false, List, [], ◌∷◌, ◌++◌, length, take, Some}
-use Rattle.std.specs.List.{AllByRecursion as All}
+use Rattle.std.specs.List.{AllByRecursion}
 use Rattle.rows.specs.declared.fault.Fault.{Fault}
 use Rattle.rows.specs.Table.{ActorRow, ChannelRow, Table, at, within, lawful, add_actor, add_channel}
 use Rattle.words.specs.declared.fault.WordFault.{WordFault}
@@ -12,8 +12,8 @@ use Rattle.words.specs.Format.{kind_of, word_of, actor_words, channel_words, row
 
 -- a table whose rows fit the words, whether or not the checks accept them, with so few words that its end can count them
 pub record Shaped (t : Table) : Type 0 where
-  pub actors_fit : All ActorFits t.actors
-  pub channels_fit : All ChannelFits t.channels
+  pub actors_fit : AllByRecursion ActorFits t.actors
+  pub channels_fit : AllByRecursion ChannelFits t.channels
   pub few_words : length (row_words t) < 268435456
 
 -- the words begin a table: with more words, or none, after them they are those of the table
