@@ -1,4 +1,5 @@
-// What load and save promise of each other, and what a refusal of words means: definitions and theorems, for the
-// contracts of the calls that name them.
+// What load and save promise of each other, and what a refusal of words means, on the contracts of the two calls.
 
 #![tactic(auto)]
+
+pub mod tables;
