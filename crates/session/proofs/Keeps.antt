@@ -15,9 +15,9 @@ use Rattle.session.specs.declared.calls.Call.TheVariants.{Open, End, Edit as Edi
 use Rattle.session.specs.Calls.{done, or_refused, edit_step, says, next, answers, book_after}
 use Rattle.session.specs.Kept.{is_refused, kept_edits, edited}
 
-edited-++ : (t : Table) (es fs : List Edit) → edited t (es ++ fs) ≡ edited (edited t es) fs
-edited-++ t [] fs = refl
-edited-++ t (e ∷ es) fs = edited-++ ((edit_step e).made t) es fs
+edited_append : (t : Table) (es fs : List Edit) → edited t (es ++ fs) ≡ edited (edited t es) fs
+edited_append t [] fs = refl
+edited_append t (e ∷ es) fs = edited_append ((edit_step e).made t) es fs
 
 -- an edit that is granted is not told as refused
 edit_told : (e : Edit) (t : Table) → is_refused ((edit_step e).value t) ≡ false
@@ -66,7 +66,7 @@ module _ (b : Book) (es : List Edit) (p : Pending b es) where
       let more : cond (is_refused ((edit_step e).value b.working)) es (es ++ e ∷ []) ≡ es ++ e ∷ [] =
       ap (λ r. cond r es (es ++ e ∷ [])) (edit_told e b.working) in
       record {
-        working_is = ap (edit_step e).made p.working_is ∙ sym (edited-++ b.standing es (e ∷ [])) ∙ ap (edited b.standing) (sym more);
+        working_is = ap (edit_step e).made p.working_is ∙ sym (edited_append b.standing es (e ∷ [])) ∙ ap (edited b.standing) (sym more);
         none_closed = λ f. absurdly b.changing (h refl) f;
       }
 
@@ -83,7 +83,7 @@ module _ (b : Book) (es : List Edit) (p : Pending b es) where
     keep_law None =
         ih kept [] (record { working_is = refl; none_closed = λ _. refl })
         ∙ ap (λ t. edited t (kept_edits [] more (answers kept more))) p.working_is
-        ∙ sym (edited-++ b.standing es (kept_edits [] more (answers kept more)))
+        ∙ sym (edited_append b.standing es (kept_edits [] more (answers kept more)))
 
     withdraw_law : (o : Option Fault)
         → (book_after (leaves o b withdrawn) more).standing

@@ -1,7 +1,7 @@
 -- A number read digit by digit.
 use Rattle.std.proofs.Common.{◌≡◌, ℕ, ◌+◌, ◌-◌, ◌*◌, ◌<◌, ◌≤◌, Bool, true, false, cond, ◌&&◌, ltb, leb, List, [], ◌∷◌, length, Some, None, Option, sym, ap, ◌∙◌, ⊎_elim, arith}
 use Rattle.std.specs.Str.Parse.{digits_value_after}
-use Rattle.std.specs.Char.{is_ascii_digit, digit_value as digitValue}
+use Rattle.std.specs.Char.{is_ascii_digit, digit_value}
 use Rattle.std.specs.Str.{all_ascii_digits}
 use Rattle.std.proofs.lemmas.Bool.{cases_Bool, cond-true, cond-false, and_from, and_left, and_right, and_parts, leb-true, lt-ltb, le-ltb, ltb-true, ltb-false}
 use Rattle.tokens.specs.Tokens.{numeral, with_digit}
@@ -19,10 +19,10 @@ below digits v = cond (digits && ltb v 4294967296) (Some v) None
 
 value_ge : (cs : List ℕ) (n : ℕ) → n ≤ digits_value_after 10 n cs
 value_ge [] n = omega arith
-value_ge (c ∷ cs) n = let h = value_ge cs (n * 10 + digitValue c) in omega arith
+value_ge (c ∷ cs) n = let h = value_ge cs (n * 10 + digit_value c) in omega arith
 
-digit_value : (c : ℕ) → is_ascii_digit c ≡ true → digitValue c ≡ c - 48
-digit_value c d =
+digit_value_lem : (c : ℕ) → is_ascii_digit c ≡ true → digit_value c ≡ c - 48
+digit_value_lem c d =
     let p = and_parts (leb 48 c) (leb c 57) d in
     let a = leb-true 48 c p.0 in
     let b = leb-true c 57 p.1 in
@@ -32,11 +32,11 @@ pub read_from : (w : List ℕ) (n : ℕ) → n < 4294967296 → numeral_from n w
 read_from [] n h = sym (cond-true (ltb n 4294967296) (Some n) None (lt-ltb n 4294967296 h))
 read_from (c ∷ cs) n h =
     let m = n * 10 + (c - 48) in
-    let v = digits_value_after 10 (n * 10 + digitValue c) cs in
+    let v = digits_value_after 10 (n * 10 + digit_value c) cs in
     let fits = ltb m 4294967296 in
     ⊎_elim
     (λ (d : is_ascii_digit c ≡ true).
-    let val : v ≡ digits_value_after 10 m cs = ap (λ k. digits_value_after 10 (n * 10 + k) cs) (digit_value c d) in
+    let val : v ≡ digits_value_after 10 m cs = ap (λ k. digits_value_after 10 (n * 10 + k) cs) (digit_value_lem c d) in
     let digits : all_ascii_digits (c ∷ cs) ≡ all_ascii_digits cs = ap (λ b. b && all_ascii_digits cs) d in
     ⊎_elim
     (λ (l : fits ≡ true).

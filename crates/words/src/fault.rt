@@ -46,9 +46,9 @@ impl WordFault {
 // Why words are not loaded.
 #[derive(Clone, Copy)]
 pub enum LoadFault {
-    // No change is open, or the ticket has another mark than the draft.
+    // A load is not shown a ticket that is accepted. Loading the rows of a table asks for none.
     TicketRefused,
-    // The draft has rows.
+    // The table has rows.
     HasRows,
     // The words are no table.
     Word(WordFault),
