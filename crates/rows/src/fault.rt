@@ -1,37 +1,41 @@
 // Why a call on a draft is refused.
-ghost use Rattle.std.specs.Prelude.{◌≡◌};
-ghost use Rattle.rows.specs.Faults.{number_of, place_of};
+ghost use Rattle.std.specs.Prelude.{◌≡◌, Some};
+ghost use Rattle.rows.specs.Faults.{number_of, place_of, fault_text};
 
+use std::error::Error;
+use std::fmt;
+
+// Each case is the number by which the refusal is known.
 #[derive(Clone, Copy, PartialEq, Eq, Debug)]
 pub enum Fault {
     // A change is open already.
-    ChangeOpen,
+    ChangeOpen = 1,
     // No change is open, or the ticket has another mark than the draft.
-    TicketRefused,
+    TicketRefused = 2,
     // The table has no room for another row of this kind.
-    TableFull,
+    TableFull = 3,
     // The number of phases is not 1 to 8.
-    PhaseCount,
+    PhaseCount = 4,
     // A phase time is not 1 to 1,000,000.
-    TimeRange,
+    TimeRange = 5,
     // A not-before tick is above 1,000,000.
-    NotBeforeRange,
+    NotBeforeRange = 6,
     // A pin names a processor above 15.
-    PinRange,
+    PinRange = 7,
     // No actor has this number.
-    NoActor,
+    NoActor = 8,
     // The writer of a channel is its reader.
-    SameActor,
+    SameActor = 9,
     // A list of rates is not as long as its actor has phases.
-    RateCount,
+    RateCount = 10,
     // A rate is above 255, or a list of rates is all zero.
-    RateRange,
+    RateRange = 11,
     // A ceiling is not 1 to 65,535.
-    CeilingRange,
+    CeilingRange = 12,
     // No channel has this number.
-    NoChannel,
+    NoChannel = 13,
     // A channel names the actor.
-    ActorInUse,
+    ActorInUse = 14,
 }
 
 impl Fault {
@@ -39,22 +43,7 @@ impl Fault {
     pub fn number(self) -> u32
         ensures { result ≡ number_of self }
     {
-        match self {
-            Fault::ChangeOpen => 1,
-            Fault::TicketRefused => 2,
-            Fault::TableFull => 3,
-            Fault::PhaseCount => 4,
-            Fault::TimeRange => 5,
-            Fault::NotBeforeRange => 6,
-            Fault::PinRange => 7,
-            Fault::NoActor => 8,
-            Fault::SameActor => 9,
-            Fault::RateCount => 10,
-            Fault::RateRange => 11,
-            Fault::CeilingRange => 12,
-            Fault::NoChannel => 13,
-            Fault::ActorInUse => 14,
-        }
+        self as u32
     }
 
     // The place that the refusal names: 0, since none of these names one.
@@ -64,3 +53,14 @@ impl Fault {
         0
     }
 }
+
+// The number of the refusal and the place that it names.
+impl fmt::Display for Fault {
+    ghost output = { λ f. Some (fault_text f) };
+
+    fn fmt<W: fmt::Write>(&self, f: &mut fmt::Formatter<W>) -> fmt::Result {
+        write!(f, "{} at {}", self.number(), self.place())
+    }
+}
+
+impl Error for Fault {}

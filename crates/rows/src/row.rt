@@ -32,3 +32,21 @@ pub struct Channel {
     pub reads: Phases,
     pub ceiling: Option<u32>,
 }
+
+// The values of an actor that is to be made.
+#[derive(Clone, Copy)]
+pub struct NewActor<'a> {
+    pub times: &'a [u32],
+    pub not_before: Option<u32>,
+    pub placement: Placement,
+}
+
+// The values of a channel that is to be made.
+#[derive(Clone, Copy)]
+pub struct NewChannel<'a> {
+    pub writer: usize,
+    pub reader: usize,
+    pub writes: &'a [u32],
+    pub reads: &'a [u32],
+    pub ceiling: Option<u32>,
+}

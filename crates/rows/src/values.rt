@@ -31,9 +31,7 @@ fn padded(numbers: &[u32]) -> [u32; 8]
     ensures { take (length numbers.now) result ≡ numbers.now }
 {
     let mut values = [0; 8];
-    for (i, n) in numbers.iter().enumerate() {
-        values[i] = *n;
-    }
+    values[..numbers.len()].copy_from_slice(numbers);
     values
 }
 
@@ -47,11 +45,13 @@ impl Placement {
             Placement::Pinned(processor) => Some(processor),
         }
     }
+}
 
-    // Pinned to this processor, or free.
-    pub fn from_pin(pin: Option<u32>) -> Placement
-        ensures { result ≡ placed pin }
-    {
+// Pinned to this processor, or free.
+impl From<Option<u32>> for Placement {
+    ghost from_gives = { λ pin r. r ≡ placed pin };
+
+    fn from(pin: Option<u32>) -> Placement {
         match pin {
             None => Placement::Free,
             Some(processor) => Placement::Pinned(processor),
@@ -74,9 +74,7 @@ impl Channel {
         Channel {
             writer: number_after_cut(self.writer, gone),
             reader: number_after_cut(self.reader, gone),
-            writes: self.writes,
-            reads: self.reads,
-            ceiling: self.ceiling,
+            ..self
         }
     }
 }

@@ -5,6 +5,11 @@ ghost use Rattle.rows.specs.Values.{table_from};
 
 use rows::row::{Actor, Channel};
 
+// The most rows that a table may have.
+pub(crate) const MOST_ACTORS: usize = 64;
+
+pub(crate) const MOST_CHANNELS: usize = 128;
+
 #[derive(Drop)]
 pub struct Rows {
     pub(crate) actors: Vec<Actor>,

@@ -1,14 +1,11 @@
-use Rattle.std.proofs.Common.{sym}
-use Rattle.rows.specs.Table.{channel_with}
+use Rattle.std.proofs.Common.{rules}
+use Rattle.rows.specs.Values.{new_channel_row}
+use Rattle.rows.proofs.Steps.{none_if_ok}
 use Rattle.rows.proofs.Parts.{few_writes, few_reads}
 use Rattle.rows.proofs.row.Channel.new.Goals as goal
 
 pub new-requires : goal.new-requires
-new-requires c =
-    few_writes c.args.actors.now (channel_with c.args.writer c.args.reader c.args.writes.now c.args.reads.now c.args.ceiling)
-    (sym c.in-None.ensures)
+new-requires c = few_writes c.args.actors.now (new_channel_row c.args.channel) (none_if_ok _ _ _ c.in_ok-check_channel.ensures)
 
-pub new-requires-in-None : goal.new-requires-in-None
-new-requires-in-None c =
-    few_reads c.args.actors.now (channel_with c.args.writer c.args.reader c.args.writes.now c.args.reads.now c.args.ceiling)
-    (sym c.in-None.ensures)
+pub new-requires-2 : goal.new-requires-2
+new-requires-2 c = few_reads c.args.actors.now (new_channel_row c.args.channel) (none_if_ok _ _ _ c.in_ok-check_channel.ensures)
