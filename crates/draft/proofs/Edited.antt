@@ -1,11 +1,17 @@
 -- An edit of the working rows, seen as a step of the book.
-use Rattle.std.proofs.Common.{◌≡◌, ℕ, Bool, true, false, cond, Some, None, Option, Result, sym, refl, ap, ◌∙◌, arith}
+use Rattle.std.proofs.Common.{◌≡◌, ℕ, Bool, true, false, cond, Some, None, Ok, Option, Result, sym, refl, ap, ◌∙◌, arith}
 use Rattle.std.proofs.lemmas.Bool.{cond-true}
 use Rattle.rows.specs.declared.fault.Fault.{Fault}
 use Rattle.rows.specs.declared.fault.Fault.TheVariants.{TicketRefused}
 use Rattle.rows.specs.Steps.{Step, Does, answer, leaves}
-use Rattle.rows.specs.Table.{Table}
+use Rattle.rows.specs.Table.{Table, check}
+use Rattle.rows.proofs.Steps.{none_if_ok}
+use Rattle.rows.proofs.Parts.{check_parts}
 use Rattle.draft.specs.Book.{Book, accepts, editing}
+
+-- a ticket that is not refused is accepted
+pub passed : {V : Type 0} (b : Bool) (v w : V) → Ok v ≡ answer (check b TicketRefused None) w → b ≡ true
+passed b v w e = (check_parts b TicketRefused None (none_if_ok (check b TicketRefused None) v w e)).0
 
 abbrev with_working : Book → Table → Book
 with_working b t = record { mark = b.mark; standing = b.standing; working = t; changing = b.changing }

@@ -1,6 +1,8 @@
 // A draft made, a change opened and kept.
-ghost use Rattle.std.specs.Prelude.{◌≡◌, IfOk};
-ghost use Rattle.rows.specs.Steps.{Does};
+ghost use Rattle.std.specs.Prelude.{◌≡◌, true, false, IfOk, MatchResult, None};
+ghost use Rattle.rows.specs.declared.fault.Fault.TheVariants.{TicketRefused};
+ghost use Rattle.rows.specs.Steps.{Does, answer};
+ghost use Rattle.rows.specs.Table.{check};
 ghost use Rattle.draft.specs.Book.{new_book, accepts, opening, keeping, or_gives_back};
 ghost use Rattle.draft.specs.Drafts.{book_of};
 
@@ -41,18 +43,32 @@ impl Draft {
     pub fn keep(&mut self, ticket: Ticket) -> Result<(), Returned>
         ensures { Does (or_gives_back ticket (keeping ticket.mark)) (book_of self.old) (book_of self.new) result }
     {
-        if !self.accepts(&ticket) {
-            return Err(Returned::new(ticket, Fault::TicketRefused));
-        }
+        let ticket = self.accept(ticket)?;
         self.changing = false;
         ticket.spend();
         Ok(())
     }
 
-    // A change is open, and the ticket has the draft's mark.
-    pub(crate) fn accepts(&self, ticket: &Ticket) -> bool
-        ensures { result ≡ accepts (book_of self.now) ticket.now.mark }
+    // A ticket is accepted by its mark, while a change is open.
+    pub(crate) fn check(&self, ticket: &Ticket) -> Result<(), Fault>
+        ensures { result ≡ answer (check (accepts (book_of self.now) ticket.now.mark) TicketRefused None) tt }
     {
-        self.changing && ticket.mark() == self.mark
+        if self.changing && ticket.mark() == self.mark {
+            Ok(())
+        } else {
+            Err(Fault::TicketRefused)
+        }
+    }
+
+    // Gives the ticket back, with the refusal where it is not accepted.
+    pub(crate) fn accept(&self, ticket: Ticket) -> Result<Ticket, Returned>
+        ensures { MatchResult result
+            (λ t. (accepts (book_of self.now) ticket.mark ≡ true) × (t ≡ ticket))
+            (λ r. (accepts (book_of self.now) ticket.mark ≡ false) × (r ≡ record { ticket = ticket; fault = TicketRefused })) }
+    {
+        match self.check(&ticket) {
+            Ok(()) => Ok(ticket),
+            Err(fault) => Err(Returned::new(ticket, fault)),
+        }
     }
 }

@@ -1,7 +1,6 @@
 // A draft read: its mark, whether a change is open, and its rows as edited so far.
-ghost use Rattle.std.specs.Prelude.{◌≡◌, Some, None, MatchResult};
+ghost use Rattle.std.specs.Prelude.{◌≡◌, Some, None, MatchResult, slice_get};
 ghost use Rattle.rows.specs.declared.fault.Fault.TheVariants.{NoActor, NoChannel};
-ghost use Rattle.rows.specs.Table.{at};
 ghost use Rattle.table.specs.Tables.{table_of};
 ghost use Rattle.rows.specs.Values.{actor_row, channel_row};
 ghost use Rattle.draft.specs.Drafts.{book_of};
@@ -33,14 +32,14 @@ impl Draft {
 
     // The actor of this number.
     pub fn actor(&self, number: usize) -> Result<Actor, Fault>
-        ensures { MatchResult result (λ a. at (book_of self.now).working.actors number ≡ Some (actor_row a)) (λ f. (at (book_of self.now).working.actors number ≡ None) × (f ≡ NoActor)) }
+        ensures { MatchResult result (λ a. slice_get (book_of self.now).working.actors number ≡ Some (actor_row a)) (λ f. (slice_get (book_of self.now).working.actors number ≡ None) × (f ≡ NoActor)) }
     {
         self.working.actor(number)
     }
 
     // The channel of this number.
     pub fn channel(&self, number: usize) -> Result<Channel, Fault>
-        ensures { MatchResult result (λ c. at (book_of self.now).working.channels number ≡ Some (channel_row c)) (λ f. (at (book_of self.now).working.channels number ≡ None) × (f ≡ NoChannel)) }
+        ensures { MatchResult result (λ c. slice_get (book_of self.now).working.channels number ≡ Some (channel_row c)) (λ f. (slice_get (book_of self.now).working.channels number ≡ None) × (f ≡ NoChannel)) }
     {
         self.working.channel(number)
     }

@@ -4,6 +4,8 @@ ghost use Rattle.draft.specs.Tickets.{ticket_of};
 
 use rows::fault::Fault;
 
+// A flag says whether it is spent, and no type: by a rule of this project a ticket is of plain values, and its drop is
+// lawful only once it is spent.
 pub struct Ticket {
     mark: u32,
     spent: bool,

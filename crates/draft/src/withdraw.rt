@@ -5,16 +5,13 @@ ghost use Rattle.draft.specs.Drafts.{book_of};
 
 use crate::draft::Draft;
 use crate::ticket::{Returned, Ticket};
-use rows::fault::Fault;
 
 impl Draft {
     // Ends the change, and puts back the rows that were saved when it was opened.
     pub fn withdraw(&mut self, ticket: Ticket) -> Result<(), Returned>
         ensures { Does (or_gives_back ticket (withdrawing ticket.mark)) (book_of self.old) (book_of self.new) result }
     {
-        if !self.accepts(&ticket) {
-            return Err(Returned::new(ticket, Fault::TicketRefused));
-        }
+        let ticket = self.accept(ticket)?;
         std::mem::swap(&mut self.working, &mut self.saved);
         self.changing = false;
         ticket.spend();

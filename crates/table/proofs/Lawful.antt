@@ -1,49 +1,48 @@
 -- Every edit that the checks accept leaves a lawful table.
 use Rattle.std.proofs.Common.{◌≡◌, ℕ, zero, suc, ◌-◌, ◌<◌, ◌≤◌, Bool, true, false, not, eqb, ltb, List, [], ◌∷◌, ◌++◌, map, length, None, refl, ap, ◌∙◌, ⊎_elim, arith}
-use Rattle.std.specs.List.{remove}
+use Rattle.std.specs.List.{remove, list_all}
 use Rattle.std.proofs.lemmas.List.{length_push, length-map}
+use Rattle.std.proofs.lemmas.List.Folds.{list_all-append}
 use Rattle.std.proofs.lemmas.List.Edits.{length-remove}
 use Rattle.std.proofs.lemmas.Bool.{and_parts, and_from, or_parts, not-true, ltb-true, leb-true, lt-ltb, le-ltb, le-leb, eqb-false, cases_lt, cond-true, cond-false}
 use Rattle.rows.specs.declared.fault.Fault.TheVariants.{TableFull, NoActor, NoChannel, ActorInUse}
-use Rattle.rows.specs.Table.{ActorRow, ChannelRow, Table, every, phases_at, check, passes, actor_fault, channel_fault, lawful, add_actor, add_channel, cut_channel, names, renumbered, renumbered_ends, cut_actor}
+use Rattle.rows.specs.Table.{ActorRow, ChannelRow, Table, phases_at, check, passes, actor_fault, channel_fault, lawful, add_actor, add_channel, cut_channel, names, renumbered, renumbered_ends, cut_actor}
 use Rattle.rows.proofs.Parts.{check_parts, passes_none, none_passes, Accepted, accepted, accepts}
 
 -- a test of every element
 
 module _ {X : Type 0} (test : X → Bool) where
-  pub every_push : (xs : List X) (x : X) → every test xs ≡ true → test x ≡ true → every test (xs ++ x ∷ []) ≡ true
-  every_push [] x h e = and_from (test x) true e refl
-  every_push (y ∷ ys) x h e =
-      let p = and_parts (test y) (every test ys) h in and_from (test y) (every test (ys ++ x ∷ [])) p.0 (every_push ys x p.1 e)
+  pub every_push : (xs : List X) (x : X) → list_all test xs ≡ true → test x ≡ true → list_all test (xs ++ x ∷ []) ≡ true
+  every_push xs x h e = list_all-append test xs (x ∷ []) ∙ and_from (list_all test xs) (list_all test (x ∷ [])) h (and_from (test x) true e refl)
 
-  pub every_removed : (xs : List X) (i : ℕ) → every test xs ≡ true → every test (remove xs i) ≡ true
+  pub every_removed : (xs : List X) (i : ℕ) → list_all test xs ≡ true → list_all test (remove xs i) ≡ true
   every_removed [] zero h = refl
   every_removed [] (suc i) h = refl
-  every_removed (y ∷ ys) zero h = (and_parts (test y) (every test ys) h).1
+  every_removed (y ∷ ys) zero h = (and_parts (test y) (list_all test ys) h).1
   every_removed (y ∷ ys) (suc i) h =
-      let p = and_parts (test y) (every test ys) h in and_from (test y) (every test (remove ys i)) p.0 (every_removed ys i p.1)
+      let p = and_parts (test y) (list_all test ys) h in and_from (test y) (list_all test (remove ys i)) p.0 (every_removed ys i p.1)
 
-  pub every_weaker : (other : X → Bool) → ((x : X) → test x ≡ true → other x ≡ true) → (xs : List X) → every test xs ≡ true → every other xs ≡ true
+  pub every_weaker : (other : X → Bool) → ((x : X) → test x ≡ true → other x ≡ true) → (xs : List X) → list_all test xs ≡ true → list_all other xs ≡ true
   every_weaker other f [] h = refl
   every_weaker other f (y ∷ ys) h =
-      let p = and_parts (test y) (every test ys) h in and_from (other y) (every other ys) (f y p.0) (every_weaker other f ys p.1)
+      let p = and_parts (test y) (list_all test ys) h in and_from (other y) (list_all other ys) (f y p.0) (every_weaker other f ys p.1)
 
 -- two tests of every element give a test of every element's image
 pub every_image : {X : Type 0} (first second other : X → Bool) (g : X → X) → ((x : X) → first x ≡ true → second x ≡ true → other (g x) ≡ true)
-    → (xs : List X) → every first xs ≡ true → every second xs ≡ true → every other (map g xs) ≡ true
+    → (xs : List X) → list_all first xs ≡ true → list_all second xs ≡ true → list_all other (map g xs) ≡ true
 every_image first second other g f [] h k = refl
 every_image first second other g f (y ∷ ys) h k =
-    let p = and_parts (first y) (every first ys) h in
-    let q = and_parts (second y) (every second ys) k in
-    and_from (other (g y)) (every other (map g ys)) (f y p.0 q.0) (every_image first second other g f ys p.1 q.1)
+    let p = and_parts (first y) (list_all first ys) h in
+    let q = and_parts (second y) (list_all second ys) k in
+    and_from (other (g y)) (list_all other (map g ys)) (f y p.0 q.0) (every_image first second other g f ys p.1 q.1)
 
 -- the parts of a lawful table
 
 pub record Lawful (t : Table) : Type 0 where
   pub few_actors : length t.actors ≤ 64
   pub few_channels : length t.channels ≤ 128
-  pub good_actors : every (λ a. passes (actor_fault a)) t.actors ≡ true
-  pub good_channels : every (λ c. passes (channel_fault t.actors c)) t.channels ≡ true
+  pub good_actors : list_all (λ a. passes (actor_fault a)) t.actors ≡ true
+  pub good_channels : list_all (λ c. passes (channel_fault t.actors c)) t.channels ≡ true
 
 module _ (t : Table) where
   pub lawful_parts : lawful t ≡ true → Lawful t
@@ -204,8 +203,8 @@ module _ (t : Table) (l : lawful t ≡ true) where
 
   pub lawful_without_actor : (i : ℕ) → (cut_actor i).fault t ≡ None → lawful ((cut_actor i).made t) ≡ true
   lawful_without_actor i e =
-      let p = check_parts (ltb i (length t.actors)) NoActor (check (every (λ c. not (names i c)) t.channels) ActorInUse None) e in
-      let q = check_parts (every (λ c. not (names i c)) t.channels) ActorInUse None p.1 in
+      let p = check_parts (ltb i (length t.actors)) NoActor (check (list_all (λ c. not (names i c)) t.channels) ActorInUse None) e in
+      let q = check_parts (list_all (λ c. not (names i c)) t.channels) ActorInUse None p.1 in
       let h = ltb-true i (length t.actors) p.0 in
       let n = length-remove t.actors i h in
       let m = length-map t.channels (renumbered_ends i) in

@@ -1,14 +1,15 @@
 -- The edits on the program's lists, seen as edits of the table that they stand for.
-use Rattle.std.proofs.Common.{◌≡◌, ℕ, zero, suc, ◌+◌, ◌<◌, ◌≤◌, true, false, ltb, List, [], ◌∷◌, ◌++◌, map, length, get_or, take, drop, set, None, sym, refl, ap, ◌∙◌, append-nil, arith}
+use Rattle.std.proofs.Common.{◌≡◌, ℕ, zero, suc, ◌+◌, ◌<◌, ◌≤◌, true, false, ltb, List, [], ◌∷◌, ◌++◌, map, length, get_or, slice_get, take, drop, set, Some, None, Option, Bor, is_some, option_map, option_copied, ok_or, IfSome, MatchResult, sym, refl, ap, ◌∙◌, append-nil, arith}
 use Rattle.std.specs.List.{remove}
 use Rattle.std.proofs.lemmas.List.{length-map, map_push, map-set, get_or-map, take_all, drop_all}
 use Rattle.std.proofs.lemmas.List.Edits.{map_over_more}
-use Rattle.std.proofs.lemmas.Bool.{lt-ltb, le-ltb}
+use Rattle.std.proofs.lemmas.Option.{slice_get-map, slice_get_past, slice_get_read}
+use Rattle.std.proofs.lemmas.Bool.{lt-ltb, le-ltb, ltb-true, ltb-false}
 use Rattle.rows.specs.declared.row.Actor.{Actor}
 use Rattle.rows.specs.declared.row.Channel.{Channel}
-use Rattle.rows.specs.Table.{ActorRow, ChannelRow, Table, lawful, renumbered_ends, add_actor, add_channel, cut_actor, cut_channel}
+use Rattle.rows.specs.Table.{ActorRow, Table, lawful, renumbered_ends, add_actor, cut_actor, cut_channel}
 use Rattle.rows.specs.Values.{actor_row, channel_row, table_from}
-use Rattle.table.proofs.Lawful.{lawful_parts, lawful_with_actor, lawful_with_channel, lawful_without_actor, lawful_without_channel}
+use Rattle.table.proofs.Lawful.{lawful_parts, lawful_with_actor, lawful_without_actor, lawful_without_channel}
 
 pub map_removed : {X Y : Type 0} (f : X → Y) (xs : List X) (i : ℕ) → map f (remove xs i) ≡ remove (map f xs) i
 map_removed f [] zero = refl
@@ -21,17 +22,11 @@ module _ {X Y : Type 0} (row : X → Y) (xs : List X) (n : ℕ) (long : n ≡ le
   pub fewer : (k : ℕ) → n < k → ltb (length (map row xs)) k ≡ true
   fewer k h = let l = length-map xs row in lt-ltb (length (map row xs)) k (omega arith)
 
-  pub not_fewer : (k : ℕ) → k ≤ n → ltb (length (map row xs)) k ≡ false
-  not_fewer k h = let l = length-map xs row in le-ltb (length (map row xs)) k (omega arith)
-
   pub there : (i : ℕ) → i < n → ltb i (length (map row xs)) ≡ true
   there i h = let l = length-map xs row in lt-ltb i (length (map row xs)) (omega arith)
 
   pub not_there : (i : ℕ) → n ≤ i → ltb i (length (map row xs)) ≡ false
   not_there i h = let l = length-map xs row in le-ltb i (length (map row xs)) (omega arith)
-
-  pub next_number : n ≡ length (map row xs)
-  next_number = let l = length-map xs row in omega arith
 
 -- one turn of a loop that changes each element in place, seen on the rows
 pub changed_more : {X Y : Type 0} (row : X → Y) (f : Y → Y) (rows : List Y) (xs : List X) (i : ℕ) (d z : X)
@@ -65,16 +60,6 @@ module _ (actors : List Actor) (channels : List Channel) (l : lawful (table_from
     pub actor_added_lawful : (add_actor a).fault was ≡ None → lawful (table_from after channels) ≡ true
     actor_added_lawful none = ap lawful actor_added_lem ∙ lawful_with_actor was l a none
 
-  module _ (c : ChannelRow) (x : Channel) (after : List Channel) (is : channel_row x ≡ c) (e : after ≡ channels ++ x ∷ []) where
-    pub channel_added_lem : table_from actors after ≡ (add_channel c).made was
-    channel_added_lem =
-        ap (λ rows. table_from actors rows) e
-        ∙ ap (λ rows. record { actors = map actor_row actors; channels = rows })
-        (map_push channel_row channels x ∙ ap (λ r. map channel_row channels ++ r ∷ []) is)
-
-    pub channel_added_lawful : (add_channel c).fault was ≡ None → lawful (table_from actors after) ≡ true
-    channel_added_lawful none = ap lawful channel_added_lem ∙ lawful_with_channel was l c none
-
   module _ (i : ℕ) (after : List Channel) (e : after ≡ remove channels i) where
     pub channel_cut_lem : table_from actors after ≡ (cut_channel i).made was
     channel_cut_lem =
@@ -93,3 +78,11 @@ module _ (actors : List Actor) (channels : List Channel) (l : lawful (table_from
 
     pub actor_cut_lawful : (cut_actor i).fault was ≡ None → lawful (table_from left after) ≡ true
     actor_cut_lawful none = ap lawful actor_cut_lem ∙ lawful_without_actor was l i none
+
+-- a row read by its number, or the fault where there is none
+pub row_read : {X Y F : Type 0} (row : X → Y) (xs : List X) (i : ℕ) (f : F) (o : Option (Bor X)) → is_some o ≡ ltb i (length xs)
+    → IfSome o (λ x. x.now ≡ get_or xs i x.now)
+    → MatchResult (ok_or (option_copied o) f) (λ x. slice_get (map row xs) i ≡ Some (row x)) (λ g. (slice_get (map row xs) i ≡ None) × (g ≡ f))
+row_read row xs i f None found is = (slice_get-map row xs i ∙ ap (option_map row) (slice_get_past xs i (ltb-false i (length xs) (sym found))), refl)
+row_read row xs i f (Some x) found is =
+    slice_get-map row xs i ∙ ap (option_map row) (slice_get_read xs (length xs) i x.now refl (ltb-true i (length xs) (sym found)) is)

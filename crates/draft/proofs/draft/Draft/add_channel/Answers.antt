@@ -1,6 +1,5 @@
-use Rattle.std.proofs.Common.{sym}
-use Rattle.draft.proofs.Edited.{edited_rows}
+use Rattle.draft.proofs.Edited.{passed, edited_rows}
 use Rattle.draft.proofs.draft.Draft.add_channel.Goals as goal
 
 pub returns : goal.returns
-returns c = edited_rows _ _ _ _ _ _ _ _ (sym c.if-not-accepts.ensures) c.add_channel.ensures
+returns c = edited_rows _ _ _ _ _ _ _ _ (passed _ _ _ c.in_ok-check.ensures) c.add_channel.ensures

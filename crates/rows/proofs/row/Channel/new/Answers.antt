@@ -1,4 +1,3 @@
-use Rattle.std.proofs.Common.{rules}
 use Rattle.rows.specs.Values.{new_channel_row}
 use Rattle.rows.proofs.Steps.{none_if_ok}
 use Rattle.rows.proofs.Parts.{few_writes, few_reads}

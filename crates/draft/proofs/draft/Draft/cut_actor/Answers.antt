@@ -1,6 +1,0 @@
-use Rattle.std.proofs.Common.{sym}
-use Rattle.draft.proofs.Edited.{edited_rows}
-use Rattle.draft.proofs.draft.Draft.cut_actor.Goals as goal
-
-pub returns : goal.returns
-returns c = edited_rows _ _ _ _ _ _ _ _ (sym c.if-not-accepts.ensures) c.cut_actor.ensures
