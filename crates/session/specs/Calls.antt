@@ -56,11 +56,6 @@ asks_memory b (EditCall shown edit) = not (accepts b shown)
 asks_memory b (End shown ending) = not (accepts b shown)
 asks_memory b RowsCall = true
 
--- what a call that gives a value says
-abbrev pub collapsed : {V : Type 0} → (V → Said) → Result V Fault → Said
-collapsed say (Ok v) = say v
-collapsed say (Err f) = refused f
-
 -- what a step says: its value, or that it is refused
 abbrev pub or_refused : Option Fault → Said → Said
 or_refused None said = said

@@ -38,6 +38,7 @@ pub enum Call {
     Rows,
 }
 
+// What a call is answered. A refusal is a case and no `Err`: a run goes on after it.
 #[derive(Drop)]
 pub enum Answer {
     // The call was granted.

@@ -4,7 +4,7 @@ ghost use Rattle.rows.specs.Steps.{Does};
 ghost use Rattle.table.specs.Tables.{table_of};
 ghost use Rattle.draft.specs.Book.{new_book, accepts, opening, editing, or_gives_back};
 ghost use Rattle.draft.specs.Drafts.{book_of};
-ghost use Rattle.session.specs.Calls.{done, rows, said_of, saying, collapsed, edit_step, end_step, call_step, asks_memory, Tells};
+ghost use Rattle.session.specs.Calls.{done, rows, said_of, saying, edit_step, end_step, call_step, asks_memory, Tells};
 ghost use Rattle.session.specs.Sessions.{session_book, Serves};
 
 use crate::calls::{Answer, Call, Edit, Ending};
@@ -12,7 +12,7 @@ use crate::session::Session;
 use crate::strays::{hand_in, stray};
 use draft::draft::Draft;
 use draft::ticket::{Returned, Ticket};
-use rows::fault::Fault;
+use rows::row::{NewActor, NewChannel};
 use std::alloc::{AllocError, Global};
 use table::storage::Rows;
 
@@ -21,8 +21,10 @@ impl Session {
     pub fn new(heap: Global, mark: u32) -> Result<Session, AllocError>
         ensures { IfOk result (λ session. session_book session ≡ new_book mark) }
     {
-        let draft = Draft::new(heap, mark)?;
-        Ok(Session { draft, hand: None })
+        Ok(Session {
+            draft: Draft::new(heap, mark)?,
+            hand: None,
+        })
     }
 
     // The draft's rows as edited so far.
@@ -52,7 +54,7 @@ impl Session {
         match self.draft.open() {
             Ok(ticket) => match self.hand.replace(ticket) {
                 None => Answer::Done,
-                Some(_) => unreachable(),
+                Some(_) => unreachable!(),
             },
             Err(fault) => Answer::Refused(fault),
         }
@@ -73,10 +75,8 @@ impl Session {
         requires { (session_book self.old).changing ≡ true }
         ensures { Tells (editing (session_book self.old).mark (edit_step edit.now)) (session_book self.old) (session_book self.new) (said_of result) }
     {
-        match &self.hand {
-            Some(ticket) => apply(&mut self.draft, ticket, edit),
-            None => unreachable(),
-        }
+        let ticket = self.hand.as_ref().unwrap();
+        apply(&mut self.draft, ticket, edit)
     }
 
     fn edit_with_stray(
@@ -115,12 +115,10 @@ impl Session {
         requires { (session_book self.old).changing ≡ true }
         ensures { Tells (saying (λ _. done) (end_step ending (session_book self.old).mark)) (session_book self.old) (session_book self.new) (said_of result) }
     {
-        let Some(ticket) = self.hand.take() else {
-            unreachable()
-        };
+        let ticket = self.hand.take().unwrap();
         match finish(&mut self.draft, ticket, ending) {
             Ok(()) => Answer::Done,
-            Err(_) => unreachable(),
+            Err(_) => unreachable!(),
         }
     }
 
@@ -135,7 +133,7 @@ impl Session {
     {
         let (other, ticket) = stray(heap, shown)?;
         match finish(&mut self.draft, ticket, ending) {
-            Ok(()) => unreachable(),
+            Ok(()) => unreachable!(),
             Err(returned) => {
                 let fault = returned.fault();
                 hand_in(other, returned.into_ticket());
@@ -162,38 +160,40 @@ fn apply(draft: &mut Draft, ticket: &Ticket, edit: &Edit) -> Answer
             times,
             not_before,
             placement,
-        } => match draft.add_actor(ticket, times.as_slice(), *not_before, *placement) {
-            Ok(number) => Answer::Actor(number),
-            Err(fault) => Answer::Refused(fault),
-        },
+        } => {
+            let actor = NewActor {
+                times,
+                not_before: *not_before,
+                placement: *placement,
+            };
+            draft
+                .add_actor(ticket, actor)
+                .map_or_else(Answer::Refused, Answer::Actor)
+        }
         Edit::AddChannel {
             writer,
             reader,
             writes,
             reads,
             ceiling,
-        } => match draft.add_channel(
-            ticket,
-            *writer,
-            *reader,
-            writes.as_slice(),
-            reads.as_slice(),
-            *ceiling,
-        ) {
-            Ok(number) => Answer::Channel(number),
-            Err(fault) => Answer::Refused(fault),
-        },
-        Edit::CutActor(number) => done_or_refused(draft.cut_actor(ticket, *number)),
-        Edit::CutChannel(number) => done_or_refused(draft.cut_channel(ticket, *number)),
-    }
-}
-
-fn done_or_refused(end: Result<(), Fault>) -> Answer
-    ensures { said_of result ≡ collapsed (λ _. done) end }
-{
-    match end {
-        Ok(()) => Answer::Done,
-        Err(fault) => Answer::Refused(fault),
+        } => {
+            let channel = NewChannel {
+                writer: *writer,
+                reader: *reader,
+                writes,
+                reads,
+                ceiling: *ceiling,
+            };
+            draft
+                .add_channel(ticket, channel)
+                .map_or_else(Answer::Refused, Answer::Channel)
+        }
+        Edit::CutActor(number) => draft
+            .cut_actor(ticket, *number)
+            .map_or_else(Answer::Refused, |()| Answer::Done),
+        Edit::CutChannel(number) => draft
+            .cut_channel(ticket, *number)
+            .map_or_else(Answer::Refused, |()| Answer::Done),
     }
 }
 

@@ -12,18 +12,13 @@ pub(crate) fn stray(heap: Global, mark: u32) -> Result<(Draft, Ticket), AllocErr
     ensures { IfOk result (λ p. ((book_of p.0).changing ≡ true) × ((book_of p.0).mark ≡ mark) × (p.1 ≡ ticket_of mark)) }
 {
     let mut other = Draft::new(heap, mark)?;
-    match other.open() {
-        Ok(ticket) => Ok((other, ticket)),
-        Err(_) => unreachable(),
-    }
+    let ticket = other.open().unwrap();
+    Ok((other, ticket))
 }
 
 // Ends the change that the ticket stands for, on a draft that accepts it.
 pub(crate) fn hand_in(mut draft: Draft, ticket: Ticket)
     requires { ((book_of draft).changing ≡ true) × (ticket.mark ≡ (book_of draft).mark) }
 {
-    match draft.withdraw(ticket) {
-        Ok(()) => (),
-        Err(_) => unreachable(),
-    }
+    draft.withdraw(ticket).unwrap();
 }
