@@ -1,18 +1,10 @@
 -- What edits of the book leave as it was.
-use Rattle.std.proofs.Common.{◌≡◌, ℕ, true, false, Some, None, Ok, Err, Option, Result, sym, refl, ap, ◌∙◌}
-use Rattle.std.specs.Option.{option_map}
-use Rattle.std.proofs.lemmas.Bool.{cond-true, cond-false}
+use Rattle.std.proofs.Common.{◌≡◌, ℕ, Some, None, Option, refl, ap, ◌∙◌}
 use Rattle.rows.specs.declared.fault.Fault.{Fault}
-use Rattle.rows.specs.declared.fault.Fault.TheVariants.{TicketRefused}
-use Rattle.rows.specs.Steps.{Step, Does, answer, leaves}
+use Rattle.rows.specs.Steps.{Step, leaves}
 use Rattle.rows.specs.Table.{Table}
-use Rattle.draft.specs.declared.ticket.Ticket.{Ticket}
-use Rattle.draft.specs.declared.ticket.Returned.{Returned}
-use Rattle.draft.specs.Tickets.{ticket_of}
-use Rattle.draft.specs.Book.{Book, accepts, editing, or_gives_back}
-use Rattle.session.specs.declared.calls.Ending.{Ending}
-use Rattle.session.specs.declared.calls.Ending.TheVariants.{Keep, Withdraw}
-use Rattle.session.specs.Calls.{Said, done, refused, Tells, saying, collapsed, or_refused, end_step}
+use Rattle.draft.specs.Book.{Book, editing}
+use Rattle.session.specs.Calls.{Said, Tells}
 
 leaves_same : {X : Type 0} (look : Book → X) (o : Option Fault) (was made : Book) → look made ≡ look was → look (leaves o was made) ≡ look was
 leaves_same look None was made e = e

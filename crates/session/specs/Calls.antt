@@ -1,5 +1,5 @@
 -- What a list of calls does to the book, and what each call is answered.
-use Rattle.std.specs.Prelude.{◌≡◌, ℕ, Bool, true, false, not, List, [], ◌∷◌, Some, None, Ok, Err, vec_items, Option, Result}
+use Rattle.std.specs.Prelude.{◌≡◌, ℕ, Bool, true, false, not, List, [], ◌∷◌, Some, None, vec_items, Option}
 use Rattle.rows.specs.declared.fault.Fault.{Fault}
 use Rattle.rows.specs.Steps.{Step, leaves}
 use Rattle.rows.specs.Table.{Table, actor_with, channel_with, add_actor, add_channel, cut_actor, cut_channel}
