@@ -1,0 +1,132 @@
+#!/usr/bin/env python3
+"""Lists, in the sources below crates/*/src, the places that the page docs/DESIGN-PASS.md counts, a line each.
+
+usage, at the top of the repository: python3 tools/places.py [FOLDER]    (FOLDER: another checkout; here by default)
+
+It goes by text, so a line is a place to look at, and the page says what became of each.
+"""
+
+import glob
+import os
+import re
+import sys
+from collections import defaultdict
+
+
+def strip(text):
+    """The text with comments and the insides of strings blanked, line for line."""
+    text = re.sub(r"//[^\n]*", "", text)
+    return re.sub(r'"(?:[^"\\\n]|\\.)*"', '""', text)
+
+
+def body_at(text, start):
+    """The braces that open at or after start, with their end."""
+    depth, i = 0, text.index("{", start)
+    begin = i
+    while i < len(text):
+        if text[i] == "{":
+            depth += 1
+        elif text[i] == "}":
+            depth -= 1
+            if depth == 0:
+                return begin, i + 1
+        i += 1
+    return begin, len(text)
+
+
+class Source:
+    def __init__(self, root, path):
+        self.path = os.path.relpath(path, root).replace("crates/", "", 1)
+        with open(path, encoding="utf-8") as file:
+            self.text = strip(file.read())
+        self.lines = self.text.split("\n")
+
+    def line(self, at):
+        return self.text.count("\n", 0, at) + 1
+
+    def found(self, pattern):
+        return [(self.line(m.start()), self.lines[self.line(m.start()) - 1].strip()) for m in re.finditer(pattern, self.text, re.M)]
+
+
+def functions(source):
+    """Each function with its name, its parameters, its clauses and its body."""
+    for m in re.finditer(r"^ *(?:pub(?:\(crate\))? )?fn (\w+)(?:<[^>(]*>)?\(", source.text, re.M):
+        depth, i = 1, m.end()
+        while depth:
+            depth += {"(": 1, ")": -1}.get(source.text[i], 0)
+            i += 1
+        params = [p.strip() for p in re.split(r",\s*(?![^<(\[]*[>)\]])", source.text[m.end() : i - 1]) if p.strip()]
+        head = re.split(r" \{\n|\n *\{\n|;\n|\}\n\n", source.text[i:], maxsplit=1)[0] + "}"
+        clauses = re.findall(r"^ *(?:requires|ensures)(?: \w+)? \{(.*(?:\n {12,}.*)*?)\}+$", head, re.M)
+        yield m.group(1), source.line(m.start()), params, [re.sub(r"\s+", " ", c).strip() for c in clauses]
+
+
+def main():
+    root = sys.argv[1] if len(sys.argv) > 1 else "."
+    sources = [Source(root, p) for p in sorted(glob.glob(os.path.join(root, "crates/*/src/*.rt")))]
+    found = defaultdict(list)
+
+    def add(point, source, line, text):
+        found[point].append("%s:%d: %s" % (source.path, line, text))
+
+    for s in sources:
+        for m in re.finditer(r"^(?:pub(?:\(crate\))? )?enum (\w+)[^{]*", s.text, re.M):
+            begin, end = body_at(s.text, m.start())
+            cases = re.findall(r"^    \w+[^,\n]*", s.text[begin:end], re.M)
+            if len(cases) == 2 and any("(" in c or "{" in c for c in cases):
+                add("1 enums of two cases, one with a value", s, s.line(m.start()), m.group(0).strip())
+        for line, text in s.found(r"^    (?:pub(?:\(crate\))? )?\w+: bool,$"):
+            add("1 flags in structs", s, line, text)
+        for line, text in s.found(r"^(?:pub(?:\(crate\))? )?const \w+: (?:u32|u8|usize) = \d+;$"):
+            add("1 numbers for kinds, as constants", s, line, text)
+        for m in re.finditer(r"^ *(?:\w+::\w+(?:\([^)]*\))?|[\w:]+ \{[^}]*\}) => \d[^,\n]*,$", s.text, re.M):
+            add("1 numbers for cases, by a match", s, s.line(m.start()), m.group(0).strip())
+        for line, text in s.found(r"-> Option<Fault>|-> \(u32, usize\)"):
+            add("1 refusals without a Result", s, line, text)
+        for line, text in s.found(r"Err\(\w+\) => (?:return )?(?:Err|Answer::Refused)\(|None => (?:return )?Err\(|Err\(_\) => (?:Err\(AllocError\)|unreachable)|None => (?:return None|unreachable)|Some\(_\) => unreachable|Ok\(\(\)\) => unreachable|return None;|Err\(error\) => Ok\(|^ *return Err\(AllocError|is_err\(\)"):
+            add("1 results passed on by hand", s, line, text)
+        for line, text in s.found(r"^ *while |\.enumerate\(\)| \+= 1;|\.wrapping_mul\(2\)|for \w+ in \w+\.\.|for _ in \w+\.\.| \+= \w+\.len\(\);"):
+            add("3 loops by an index", s, line, text)
+        for name, line, _, _ in functions(s):
+            if re.fullmatch(r"push_\w+|tell|show|name_of|is|place|pin|from_pin|pin_of|placement_of|placed|keyword_of|part_word_of|number_of|is_word|with_digit|told", name):
+                add("4 equality, conversion and printing by functions", s, line, name)
+        for line, text in s.found(r"\[(?:u8|u32|u64|T); \w+\]|let mut \w+ = \[\w+; \w+\];"):
+            add("6 arrays that are filled in part", s, line, text)
+        for line, text in s.found(r"^ *if is_word\(|^ *if \w+\.accept\("):
+            add("6 searches by hand, as chains of tests", s, line, text)
+        for line, text in s.found(r"^ *(?:(?:Call|Edit|Ending|Record|Kind)::\w+|[A-Z]+)(?:\([^)]*\)| \{[^}]*\})? => \W*(?:Ok\()?(?:self\.|draft\.|\w+\()"):
+            add("7 arms that choose a step", s, line, text)
+
+    twins = defaultdict(list)
+    together = defaultdict(list)
+    clauses = defaultdict(list)
+    for s in sources:
+        for name, line, params, said in functions(s):
+            plain = [p for p in params if ":" in p and not re.search(r": (?:&mut )?(?:Global|HostRuntime|&HostRuntime|&mut String|String)$", p)]
+            kinds = [p.replace("mut ", "", 1) if p.startswith("mut ") else p for p in plain]
+            for i, a in enumerate(kinds):
+                for b in kinds[i + 1 :]:
+                    together[(a, b)].append("%s:%d %s" % (s.path, line, name))
+            for c in said:
+                clauses[c[:30]].append("%s:%d %s" % (s.path, line, name))
+            # A function's twin differs in a type or a constant: compare names without their subject.
+            stem = re.sub(r"actors?|channels?|writer|reader|writes|reads|adds?|own|stray|keep|withdraw|not_before|pin\b", "*", name)
+            if "*" in stem:
+                twins[(s.path.split("/")[0], stem)].append("%s:%d %s" % (s.path, line, name))
+    for (_, stem), places in sorted(twins.items()):
+        if len(places) > 1:
+            for p in places:
+                found["2 functions whose names differ in their subject alone"].append("%s (%s)" % (p, stem))
+    for (a, b), places in sorted(together.items()):
+        if len(places) >= 3:
+            found["5 parameters of three functions or more"].append("%s, %s: %d, as %s" % (a, b, len(places), places[0]))
+    for c, places in sorted(clauses.items()):
+        if len(places) >= 3:
+            found["5 clauses of three functions or more, by their first 30 characters"].append("%s: %d, as %s" % (c, len(places), places[0]))
+    for point in sorted(found):
+        print("%s: %d" % (point, len(found[point])))
+        for text in found[point]:
+            print("    " + text)
+
+
+main()
