@@ -5,8 +5,10 @@ use Rattle.std.proofs.lemmas.Bool.{and_parts, and_from, leb-true, lt-ltb, ne_eqb
 use Rattle.rows.specs.declared.fault.Fault.TheVariants.{PhaseCount, TimeRange, NotBeforeRange, PinRange}
 use Rattle.rows.specs.declared.row.Placement.{Placement}
 use Rattle.rows.specs.declared.row.Placement.TheVariants.{Free, Pinned}
-use Rattle.rows.specs.Table.{ActorRow, ChannelRow, Table, within, every, within_if_given, pin_within, good_rates, passes, actor_fault, channel_fault, lawful}
+use Rattle.rows.specs.Table.{ActorRow, ChannelRow, Table, within, every, within_if_given, pin_within, pin_of, good_rates, passes, actor_fault, channel_fault, lawful}
 use Rattle.rows.proofs.Parts.{check_parts, passes_none, accepted}
+use Rattle.table.specs.declared.storage.Rows.{Rows}
+use Rattle.table.specs.Tables.{table_of}
 use Rattle.table.proofs.Lawful.{lawful_parts}
 use Rattle.tokens.specs.declared.token.Token.{Token}
 use Rattle.tokens.specs.declared.token.Token.TheVariants.{Mark, Actor, Channel}
@@ -16,7 +18,7 @@ use Rattle.script.specs.Reading.{and_then, starts}
 use Rattle.script.specs.Plain.{PlainCall}
 use Rattle.script.specs.Grammar.{call_of}
 use Rattle.script.specs.Scripts.{PlainScript, sofar_with, line_of, numbered, lines_read, script_of}
-use Rattle.answers.specs.Texts.{pin_of, actor_text, channel_text, table_text}
+use Rattle.answers.specs.Texts.{actor_text, channel_text, table_text}
 use Rattle.answers.specs.Adds.{adds_actor, adds_channel, adds_rows}
 use Rattle.answers.proofs.Figures.{small, all_small}
 use Rattle.answers.proofs.RowLines.{small_if, SmallActor, SmallChannel, actor_line, channel_line, after_actor, after_channel, actor_tokens, channel_tokens, actor_line_call, channel_line_call, actor_line_lem, channel_line_lem}
@@ -122,3 +124,6 @@ table_reads t l =
     (λ k. rows_read channel_text channel_line adds_channel (λ c. passes (channel_fault t.actors c))
     (λ c h. channel_line_lem c (channel_small t.actors c p.few_actors h)) (channel_reads t.actors p.few_actors)
     t.channels k (map adds_actor t.actors) [] (Ok (adds_rows t)) p.good_channels (λ j. refl))
+
+pub rows_read_back : (r : Rows) → script_of (table_text (table_of r)) ≡ Ok (adds_rows (table_of r))
+rows_read_back r = table_reads (table_of r) r.accepted
