@@ -114,7 +114,7 @@ channel_reads rows few c h calls =
     let e = channel_tokens c s in
     ap (line_of (sofar_with None calls)) e ∙ line_call calls Channel (after_channel c.writer c.reader c.writes c.reads c.ceiling) (adds_channel c) refl (ap (call_of 0) (sym e) ∙ channel_line_call c s 0)
 
-pub table_reads : (t : Table) → lawful t ≡ true → script_of (table_text t) ≡ Ok (adds_rows t)
+table_reads : (t : Table) → lawful t ≡ true → script_of (table_text t) ≡ Ok (adds_rows t)
 table_reads t l =
     let p = lawful_parts t l in
     let rest = flat_map channel_text t.channels in
@@ -125,5 +125,6 @@ table_reads t l =
     (λ c h. channel_line_lem c (channel_small t.actors c p.few_actors h)) (channel_reads t.actors p.few_actors)
     t.channels k (map adds_actor t.actors) [] (Ok (adds_rows t)) p.good_channels (λ j. refl))
 
+-- the same of the program's rows
 pub rows_read_back : (r : Rows) → script_of (table_text (table_of r)) ≡ Ok (adds_rows (table_of r))
 rows_read_back r = table_reads (table_of r) r.accepted
