@@ -5,8 +5,10 @@ use Rattle.std.proofs.lemmas.Bool.{and_parts, and_from, leb-true, lt-ltb, ne_eqb
 use Rattle.rows.specs.declared.fault.Fault.TheVariants.{PhaseCount, TimeRange, NotBeforeRange, PinRange}
 use Rattle.rows.specs.declared.row.Placement.{Placement}
 use Rattle.rows.specs.declared.row.Placement.TheVariants.{Free, Pinned}
-use Rattle.rows.specs.Table.{ActorRow, ChannelRow, Table, within, every, within_if_given, pin_within, good_rates, passes, actor_fault, channel_fault, lawful}
+use Rattle.rows.specs.Table.{ActorRow, ChannelRow, Table, within, every, within_if_given, pin_within, pin_of, good_rates, passes, actor_fault, channel_fault, lawful}
 use Rattle.rows.proofs.Parts.{check_parts, passes_none, accepted}
+use Rattle.table.specs.declared.storage.Rows.{Rows}
+use Rattle.table.specs.Tables.{table_of}
 use Rattle.table.proofs.Lawful.{lawful_parts}
 use Rattle.tokens.specs.declared.token.Token.{Token}
 use Rattle.tokens.specs.declared.token.Token.TheVariants.{Mark, Actor, Channel}
@@ -16,7 +18,7 @@ use Rattle.script.specs.Reading.{and_then, starts}
 use Rattle.script.specs.Plain.{PlainCall}
 use Rattle.script.specs.Grammar.{call_of}
 use Rattle.script.specs.Scripts.{PlainScript, sofar_with, line_of, numbered, lines_read, script_of}
-use Rattle.answers.specs.Texts.{pin_of, actor_text, channel_text, table_text}
+use Rattle.answers.specs.Texts.{actor_text, channel_text, table_text}
 use Rattle.answers.specs.Adds.{adds_actor, adds_channel, adds_rows}
 use Rattle.answers.proofs.Figures.{small, all_small}
 use Rattle.answers.proofs.RowLines.{small_if, SmallActor, SmallChannel, actor_line, channel_line, after_actor, after_channel, actor_tokens, channel_tokens, actor_line_call, channel_line_call, actor_line_lem, channel_line_lem}
@@ -112,7 +114,7 @@ channel_reads rows few c h calls =
     let e = channel_tokens c s in
     ap (line_of (sofar_with None calls)) e ∙ line_call calls Channel (after_channel c.writer c.reader c.writes c.reads c.ceiling) (adds_channel c) refl (ap (call_of 0) (sym e) ∙ channel_line_call c s 0)
 
-pub table_reads : (t : Table) → lawful t ≡ true → script_of (table_text t) ≡ Ok (adds_rows t)
+table_reads : (t : Table) → lawful t ≡ true → script_of (table_text t) ≡ Ok (adds_rows t)
 table_reads t l =
     let p = lawful_parts t l in
     let rest = flat_map channel_text t.channels in
@@ -122,3 +124,7 @@ table_reads t l =
     (λ k. rows_read channel_text channel_line adds_channel (λ c. passes (channel_fault t.actors c))
     (λ c h. channel_line_lem c (channel_small t.actors c p.few_actors h)) (channel_reads t.actors p.few_actors)
     t.channels k (map adds_actor t.actors) [] (Ok (adds_rows t)) p.good_channels (λ j. refl))
+
+-- the same of the program's rows
+pub rows_read_back : (r : Rows) → script_of (table_text (table_of r)) ≡ Ok (adds_rows (table_of r))
+rows_read_back r = table_reads (table_of r) r.accepted

@@ -2,10 +2,8 @@
 use Rattle.std.specs.Prelude.{ℕ, List, [], ◌∷◌, ◌++◌, Some, None, codes, decimal, Option}
 use Rattle.std.specs.List.{flat_map}
 use Rattle.rows.specs.declared.fault.Fault.{Fault}
-use Rattle.rows.specs.declared.row.Placement.{Placement}
-use Rattle.rows.specs.declared.row.Placement.TheVariants.{Free, Pinned}
 use Rattle.rows.specs.Faults.{number_of, place_of}
-use Rattle.rows.specs.Table.{ActorRow, ChannelRow, Table}
+use Rattle.rows.specs.Table.{ActorRow, ChannelRow, Table, pin_of}
 use Rattle.session.specs.Calls.{Said, done, actor, channel, rows, refused}
 
 -- a name and a number, on a line
@@ -31,10 +29,6 @@ option_text name (Some n) = name ++ decimal n
 -- the last part of a row's line
 abbrev pub last_text : List ℕ → Option ℕ → List ℕ
 last_text name n = option_text name n ++ 10 ∷ []
-
-abbrev pub pin_of : Placement → Option ℕ
-pin_of Free = None
-pin_of (Pinned p) = Some p
 
 abbrev pub actor_text : ActorRow → List ℕ
 actor_text a =

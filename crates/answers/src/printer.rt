@@ -1,17 +1,17 @@
 // The lines that answers are printed as.
-ghost use Rattle.std.specs.Prelude.{◌≡◌, ◌++◌, map, IfOk, Ok, string_bytes, decimal, OnOk};
+ghost use Rattle.std.specs.Prelude.{◌≡◌, ◌++◌, map, IfOk, Ok, Some, codes, string_bytes, OnOk};
 ghost use Rattle.std.specs.List.{flat_map};
 ghost use Rattle.table.specs.Tables.{table_of};
 ghost use Rattle.rows.specs.Values.{actor_row, channel_row};
 ghost use Rattle.session.specs.Calls.{said_of};
 ghost use Rattle.answers.specs.Adds.{adds_rows};
 ghost use Rattle.script.specs.Scripts.{script_of};
-ghost use Rattle.answers.specs.Texts.{answer_text, actor_text, channel_text, table_text, refusal_text, numbered_text, ends_text, list_text, spaced_text, option_text, last_text, pin_of};
+ghost use Rattle.answers.specs.Texts.{answer_text, actor_text, channel_text, table_text, spaced_text, option_text};
 
-use rows::fault::Fault;
-use rows::row::{Actor, Channel, Placement};
+use rows::row::{Actor, Channel};
 use session::calls::Answer;
 use std::alloc::{AllocError, Global};
+use std::fmt;
 use table::storage::Rows;
 
 // The text of all the answers.
@@ -30,142 +30,103 @@ pub fn push_answer(out: &mut String, answer: &Answer) -> Result<(), AllocError>
     ensures { OnOk result (string_bytes out.new ≡ string_bytes out.old ++ answer_text (said_of answer.now)) }
 {
     match answer {
-        Answer::Done => out.push_str("ok\n"),
-        Answer::Actor(number) => push_numbered(out, "actor ", *number),
-        Answer::Channel(number) => push_numbered(out, "channel ", *number),
-        Answer::Refused(fault) => push_refusal(out, *fault),
+        Answer::Done => writeln!(out, "ok"),
+        Answer::Actor(number) => writeln!(out, "actor {number}"),
+        Answer::Channel(number) => writeln!(out, "channel {number}"),
+        Answer::Refused(fault) => writeln!(out, "refused {} at {}", fault.number(), fault.place()),
         Answer::Rows(rows) => push_rows(out, rows),
     }
 }
 
-// A name and a number, on a line.
-fn push_numbered(out: &mut String, name: &str, number: usize) -> Result<(), AllocError>
-    ensures { OnOk result (string_bytes out.new ≡ string_bytes out.old ++ numbered_text name.now number) }
-{
-    out.push_str(name)?;
-    push_number(out, number)?;
-    out.push_str("\n")
-}
-
-fn push_refusal(out: &mut String, fault: Fault) -> Result<(), AllocError>
-    ensures { OnOk result (string_bytes out.new ≡ string_bytes out.old ++ refusal_text fault) }
-{
-    out.push_str("refused ")?;
-    push_number(out, fault.number() as usize)?;
-    push_numbered(out, " at ", fault.place() as usize)
-}
-
 // Each actor and then each channel, as the line that adds it: the lines can be read back as a script.
+#[tactic(auto, using(crate::proofs::ReadBack::rows_read_back))]
 pub fn push_rows(out: &mut String, rows: &Rows) -> Result<(), AllocError>
     ensures text { OnOk result (string_bytes out.new ≡ string_bytes out.old ++ table_text (table_of rows.now)) }
     ensures reads_back { script_of (table_text (table_of rows.now)) ≡ Ok (adds_rows (table_of rows.now)) }
 {
-    push_actors(out, rows.actors())?;
-    push_channels(out, rows.channels())
-}
-
-fn push_actors(out: &mut String, actors: &[Actor]) -> Result<(), AllocError>
-    ensures { OnOk result (string_bytes out.new ≡ string_bytes out.old ++ flat_map actor_text (map actor_row actors.now)) }
-{
-    for actor in actors {
-        push_actor(out, actor)?;
+    for actor in rows.actors() {
+        write!(out, "{}", ActorLine(actor))?;
+    }
+    for channel in rows.channels() {
+        write!(out, "{}", ChannelLine(channel))?;
     }
     Ok(())
 }
 
-fn push_channels(out: &mut String, channels: &[Channel]) -> Result<(), AllocError>
-    ensures { OnOk result (string_bytes out.new ≡ string_bytes out.old ++ flat_map channel_text (map channel_row channels.now)) }
-{
-    for channel in channels {
-        push_channel(out, channel)?;
-    }
-    Ok(())
-}
+// The line that adds an actor.
+#[derive(Drop)]
+struct ActorLine<'a>(&'a Actor);
 
-fn push_actor(out: &mut String, actor: &Actor) -> Result<(), AllocError>
-    ensures { OnOk result (string_bytes out.new ≡ string_bytes out.old ++ actor_text (actor_row actor.now)) }
-{
-    push_list(out, "actor times", actor.times.as_slice())?;
-    push_option(out, " not-before ", actor.not_before)?;
-    push_last(out, " pin ", pin_of(actor.placement))
-}
+impl fmt::Display for ActorLine<'_> {
+    ghost output = { λ l. Some (actor_text (actor_row l.0.now)) };
 
-fn pin_of(placement: Placement) -> Option<u32>
-    ensures { result ≡ pin_of placement }
-{
-    match placement {
-        Placement::Free => None,
-        Placement::Pinned(processor) => Some(processor),
+    fn fmt<W: fmt::Write>(&self, f: &mut fmt::Formatter<W>) -> fmt::Result {
+        let actor = self.0;
+        let times = Numbers(actor.times.as_slice());
+        let not_before = Part {
+            name: "not-before",
+            number: actor.not_before,
+        };
+        let pin = Part {
+            name: "pin",
+            number: actor.placement.pin(),
+        };
+        writeln!(f, "actor times{times}{not_before}{pin}")
     }
 }
 
-fn push_channel(out: &mut String, channel: &Channel) -> Result<(), AllocError>
-    ensures { OnOk result (string_bytes out.new ≡ string_bytes out.old ++ channel_text (channel_row channel.now)) }
-{
-    push_ends(out, channel.writer, channel.reader)?;
-    push_list(out, " writes", channel.writes.as_slice())?;
-    push_list(out, " reads", channel.reads.as_slice())?;
-    push_last(out, " ceiling ", channel.ceiling)
-}
+// The line that adds a channel.
+#[derive(Drop)]
+struct ChannelLine<'a>(&'a Channel);
 
-fn push_ends(out: &mut String, writer: usize, reader: usize) -> Result<(), AllocError>
-    ensures { OnOk result (string_bytes out.new ≡ string_bytes out.old ++ ends_text writer reader) }
-{
-    out.push_str("channel ")?;
-    push_number(out, writer)?;
-    out.push_str(" ")?;
-    push_number(out, reader)
-}
+impl fmt::Display for ChannelLine<'_> {
+    ghost output = { λ l. Some (channel_text (channel_row l.0.now)) };
 
-// A name and the numbers of a list.
-fn push_list(out: &mut String, name: &str, numbers: &[u32]) -> Result<(), AllocError>
-    ensures { OnOk result (string_bytes out.new ≡ string_bytes out.old ++ list_text name.now numbers.now) }
-{
-    out.push_str(name)?;
-    push_numbers(out, numbers)
+    fn fmt<W: fmt::Write>(&self, f: &mut fmt::Formatter<W>) -> fmt::Result {
+        let channel = self.0;
+        let writes = Numbers(channel.writes.as_slice());
+        let reads = Numbers(channel.reads.as_slice());
+        let ceiling = Part {
+            name: "ceiling",
+            number: channel.ceiling,
+        };
+        writeln!(
+            f,
+            "channel {} {} writes{writes} reads{reads}{ceiling}",
+            channel.writer, channel.reader
+        )
+    }
 }
 
 // Each number after a space.
-fn push_numbers(out: &mut String, numbers: &[u32]) -> Result<(), AllocError>
-    ensures { OnOk result (string_bytes out.new ≡ string_bytes out.old ++ flat_map spaced_text numbers.now) }
-{
-    for n in numbers {
-        push_spaced(out, *n)?;
+#[derive(Drop)]
+struct Numbers<'a>(&'a [u32]);
+
+impl fmt::Display for Numbers<'_> {
+    ghost output = { λ ns. Some (flat_map spaced_text ns.0.now) };
+
+    fn fmt<W: fmt::Write>(&self, f: &mut fmt::Formatter<W>) -> fmt::Result {
+        for number in self.0 {
+            write!(f, " {number}")?;
+        }
+        Ok(())
     }
-    Ok(())
 }
 
-fn push_spaced(out: &mut String, n: u32) -> Result<(), AllocError>
-    ensures { OnOk result (string_bytes out.new ≡ string_bytes out.old ++ spaced_text n) }
-{
-    out.push_str(" ")?;
-    push_number(out, n as usize)
+// A name and a number, each after a space, if there is a number.
+#[derive(Drop)]
+struct Part<'a> {
+    name: &'a str,
+    number: Option<u32>,
 }
 
-// The last part of a row's line.
-fn push_last(out: &mut String, name: &str, number: Option<u32>) -> Result<(), AllocError>
-    ensures { OnOk result (string_bytes out.new ≡ string_bytes out.old ++ last_text name.now number) }
-{
-    push_option(out, name, number)?;
-    out.push_str("\n")
-}
+impl fmt::Display for Part<'_> {
+    ghost output = { λ p. Some (option_text (codes " " ++ (p.name.now ++ codes " ")) p.number) };
 
-// A name and a number, if there is a number.
-fn push_option(out: &mut String, name: &str, number: Option<u32>) -> Result<(), AllocError>
-    ensures { OnOk result (string_bytes out.new ≡ string_bytes out.old ++ option_text name.now number) }
-{
-    let Some(n) = number else {
-        return Ok(());
-    };
-    out.push_str(name)?;
-    push_number(out, n as usize)
-}
-
-fn push_number(out: &mut String, n: usize) -> Result<(), AllocError>
-    ensures { OnOk result (string_bytes out.new ≡ string_bytes out.old ++ decimal n) }
-{
-    match write!(out, "{n}") {
-        Ok(()) => Ok(()),
-        Err(_) => Err(AllocError),
+    fn fmt<W: fmt::Write>(&self, f: &mut fmt::Formatter<W>) -> fmt::Result {
+        match self.number {
+            Some(number) => write!(f, " {} {number}", self.name),
+            None => Ok(()),
+        }
     }
 }

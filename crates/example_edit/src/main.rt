@@ -2,14 +2,12 @@
 
 #![tactic(auto)]
 
-ghost use Rattle.std.specs.Prelude.{◌≡◌, true, None, MatchResult};
+ghost use Rattle.std.specs.Prelude.{◌≡◌, None, MatchResult};
 ghost use Rattle.rows.specs.Table.{actor_with, add_actor};
 ghost use Rattle.rows.specs.declared.row.Placement.TheVariants.{Free};
-ghost use Rattle.draft.specs.Book.{accepts, keeping, withdrawing};
 ghost use Rattle.draft.specs.Drafts.{book_of};
 
 use draft::draft::Draft;
-use draft::ticket::Ticket;
 use rows::fault::Fault;
 use rows::row::Placement;
 
@@ -20,16 +18,12 @@ fn add_actor(draft: &mut Draft, times: &[u32]) -> Result<usize, Fault>
         (λ _. book_of draft.new ≡ book_of draft.old) }
 {
     let ticket = draft.open()?;
-    match draft.add_actor(&ticket, times, None, Placement::Free) {
-        Ok(number) => {
-            keep(draft, ticket);
-            Ok(number)
-        }
-        Err(fault) => {
-            withdraw(draft, ticket);
-            Err(fault)
-        }
+    let answer = draft.add_actor(&ticket, times, None, Placement::Free);
+    match answer {
+        Ok(_) => draft.keep(ticket).unwrap(),
+        Err(_) => draft.withdraw(ticket).unwrap(),
     }
+    answer
 }
 
 // Shows a draft the ticket of another draft's change: refused where their marks differ.
@@ -39,28 +33,8 @@ fn show_elsewhere(draft: &mut Draft, other: &mut Draft, times: &[u32]) -> Result
 {
     let ticket = other.open()?;
     let answer = draft.add_actor(&ticket, times, None, Placement::Free);
-    withdraw(other, ticket);
+    other.withdraw(ticket).unwrap();
     answer
-}
-
-fn keep(draft: &mut Draft, ticket: Ticket)
-    requires { accepts (book_of draft.old) ticket.mark ≡ true }
-    ensures { book_of draft.new ≡ (keeping ticket.mark).made (book_of draft.old) }
-{
-    match draft.keep(ticket) {
-        Ok(()) => (),
-        Err(_) => unreachable(),
-    }
-}
-
-fn withdraw(draft: &mut Draft, ticket: Ticket)
-    requires { accepts (book_of draft.old) ticket.mark ≡ true }
-    ensures { book_of draft.new ≡ (withdrawing ticket.mark).made (book_of draft.old) }
-{
-    match draft.withdraw(ticket) {
-        Ok(()) => (),
-        Err(_) => unreachable(),
-    }
 }
 
 fn main(rt: HostRuntime) -> anyhow::Result<()> {
@@ -71,20 +45,11 @@ fn main(rt: HostRuntime) -> anyhow::Result<()> {
     let third = show_elsewhere(&mut draft, &mut other, &[1]);
     let rows = draft.rows().actors().len();
     println!(rt; "{rows} row")?;
-    tell(&rt, first)?;
-    tell(&rt, second)?;
-    tell(&rt, third)?;
-    Ok(())
-}
-
-// Prints the number of an added actor, or the refusal.
-fn tell(rt: &HostRuntime, answer: Result<usize, Fault>) -> anyhow::Result<()> {
-    match answer {
-        Ok(number) => println!(rt; "actor {number}")?,
-        Err(fault) => {
-            let number = fault.number();
-            let place = fault.place();
-            println!(rt; "refused {number} at {place}")?;
+    // The number of each added actor, or the refusal.
+    for answer in [first, second, third] {
+        match answer {
+            Ok(number) => println!(rt; "actor {number}")?,
+            Err(fault) => println!(rt; "refused {} at {}", fault.number(), fault.place())?,
         }
     }
     Ok(())

@@ -12,7 +12,7 @@ ghost use Rattle.answers.specs.Texts.{answer_text};
 mod tests;
 
 use answers::printer::answers_text;
-use anyhow::anyhow;
+use anyhow::bail;
 use script::script::{Script, parse};
 use session::runs::run;
 use std::alloc::{AllocError, Global};
@@ -30,15 +30,14 @@ fn answered(heap: Global, script: &Script) -> Result<String, AllocError>
 fn main(rt: HostRuntime) -> anyhow::Result<()> {
     let mut text = Vec::new(rt.alloc());
     rt.stdin().read_to_end(&mut text)?;
-    match parse(rt.alloc(), text.as_slice()) {
-        Ok(script) => {
-            let answers = answered(rt.alloc(), &script)?;
-            print!(rt; "{answers}")?;
-            Ok(())
-        }
+    let script = match parse(rt.alloc(), text.as_slice()) {
+        Ok(script) => script,
         Err(error) => {
             eprintln!(rt; "{error}")?;
-            Err(anyhow!("the script was not run"))
+            bail!("the script was not run");
         }
-    }
+    };
+    let answers = answered(rt.alloc(), &script)?;
+    print!(rt; "{answers}")?;
+    Ok(())
 }

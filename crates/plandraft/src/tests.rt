@@ -7,7 +7,7 @@ use std::test::Fail;
 fn told(heap: Global, text: &str) -> Result<String, Fail> {
     match parse(heap, text.as_bytes()) {
         Ok(script) => Ok(answered(heap, &script)?),
-        Err(error) => Ok(format!(in heap; "{error}")?),
+        Err(error) => Ok(error.to_string(heap)?),
     }
 }
 

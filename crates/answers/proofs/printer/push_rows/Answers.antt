@@ -1,10 +1,9 @@
-use Rattle.std.proofs.Common.{append_assoc, rules}
-use Rattle.table.specs.Tables.{table_of}
-use Rattle.answers.proofs.ReadBack.{table_reads}
+use Rattle.rows.specs.Values.{actor_row}
+use Rattle.answers.specs.Texts.{actor_text}
+use Rattle.answers.proofs.Printed.{rows_more}
 use Rattle.answers.proofs.printer.push_rows.Goals as goal
 
-pub returns-in_err-push_actors : goal.returns-in_err-push_actors
-returns-in_err-push_actors c = record { text = search rules; reads_back = table_reads (table_of c.args.rows.now) c.args.rows.now.accepted }
-
-pub returns : goal.returns
-returns c = record { text = search (rules, append_assoc); reads_back = table_reads (table_of c.args.rows.now) c.args.rows.now.accepted }
+pub loop-actor-preserved : goal.loop-actor-preserved
+loop-actor-preserved c =
+    rows_more actor_text _ _ _ actor_row c.actors-actor-items.result.now c.loop-actor.actor-index c.actor-item.result c.loop-actor-test.true c.actor-item.is
+    c.loop-actor.invariant c.in_ok-write.ensures.bytes

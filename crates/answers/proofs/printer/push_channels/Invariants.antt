@@ -1,8 +1,0 @@
-use Rattle.std.proofs.Common.{◌≡◌, ◌++◌, map, take, string_bytes}
-use Rattle.std.specs.List.{flat_map}
-use Rattle.rows.specs.Values.{channel_row}
-use Rattle.answers.specs.Texts.{channel_text}
-use Rattle.answers.proofs.printer.push_channels.Given as goal
-
-abbrev pub invariant-loop-channel : goal.invariant-loop-channel
-invariant-loop-channel l = string_bytes l.out ≡ string_bytes l.initial.out ++ flat_map channel_text (map channel_row (take l.channel-index l.channels))
