@@ -5,7 +5,8 @@ use Rattle.std.proofs.lemmas.Bool.{and_parts, and_from, leb-true, lt-ltb, ne_eqb
 use Rattle.rows.specs.declared.fault.Fault.TheVariants.{PhaseCount, TimeRange, NotBeforeRange, PinRange}
 use Rattle.rows.specs.declared.row.Placement.{Placement}
 use Rattle.rows.specs.declared.row.Placement.TheVariants.{Free, Pinned}
-use Rattle.rows.specs.Table.{ActorRow, ChannelRow, Table, within, every, within_if_given, pin_within, pin_of, good_rates, passes, actor_fault, channel_fault, lawful}
+use Rattle.std.specs.List.{list_all}
+use Rattle.rows.specs.Table.{ActorRow, ChannelRow, Table, within, within_if_given, pin_within, pin_of, good_rates, passes, actor_fault, channel_fault, lawful}
 use Rattle.rows.proofs.Parts.{check_parts, passes_none, accepted}
 use Rattle.table.specs.declared.storage.Rows.{Rows}
 use Rattle.table.specs.Tables.{table_of}
@@ -31,10 +32,10 @@ under n high h k = let l = leb-true n high h in lt-ltb n 4294967296 (omega arith
 within_small : (low high n : ℕ) → high < 4294967296 → within low high n ≡ true → small n ≡ true
 within_small low high n k h = under n high (and_parts (leb low n) (leb n high) h).1 k
 
-every_small : (low high : ℕ) (ns : List ℕ) → high < 4294967296 → every (within low high) ns ≡ true → all_small ns ≡ true
+every_small : (low high : ℕ) (ns : List ℕ) → high < 4294967296 → list_all (within low high) ns ≡ true → all_small ns ≡ true
 every_small low high [] k h = refl
 every_small low high (n ∷ ns) k h =
-    let p = and_parts (within low high n) (every (within low high) ns) h in
+    let p = and_parts (within low high n) (list_all (within low high) ns) h in
     and_from (small n) (all_small ns) (within_small low high n k p.0) (every_small low high ns k p.1)
 
 given_small : (low high : ℕ) (o : Option ℕ) → high < 4294967296 → within_if_given low high o ≡ true → small_if o ≡ true
@@ -87,12 +88,12 @@ line_call calls t ts c h e =
 module _ {R : Type 0} (text line : R → List ℕ) (call : R → PlainCall) (good : R → Bool)
     (ends : (r : R) → good r ≡ true → (rest : List ℕ) → lines_from [] (text r ++ rest) ≡ line r ∷ lines_from [] rest)
     (reads : (r : R) → good r ≡ true → (calls : List PlainCall) → line_of (sofar_with None calls) (tokens_of (line r)) ≡ Ok (sofar_with None (calls ++ call r ∷ []))) where
-  rows_read : (rs : List R) (n : ℕ) (calls : List PlainCall) (rest : List ℕ) (answer : Result PlainScript (ℕ × Expected)) → every good rs ≡ true
+  rows_read : (rs : List R) (n : ℕ) (calls : List PlainCall) (rest : List ℕ) (answer : Result PlainScript (ℕ × Expected)) → list_all good rs ≡ true
       → ((k : ℕ) → lines_read k (sofar_with None (calls ++ map call rs)) (lines_from [] rest) ≡ answer)
       → lines_read n (sofar_with None calls) (lines_from [] (flat_map text rs ++ rest)) ≡ answer
   rows_read [] n calls rest answer h k = ap (λ l. lines_read n (sofar_with None l) (lines_from [] rest)) (sym (append-nil calls)) ∙ k n
   rows_read (r ∷ rs) n calls rest answer h k =
-      let p = and_parts (good r) (every good rs) h in
+      let p = and_parts (good r) (list_all good rs) h in
       let more = flat_map text rs ++ rest in
       ap (λ l. lines_read n (sofar_with None calls) (lines_from [] l)) (append_assoc (text r) (flat_map text rs) rest)
       ∙ ap (lines_read n (sofar_with None calls)) (ends r p.0 more)

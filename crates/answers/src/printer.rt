@@ -33,7 +33,7 @@ pub fn push_answer(out: &mut String, answer: &Answer) -> Result<(), AllocError>
         Answer::Done => writeln!(out, "ok"),
         Answer::Actor(number) => writeln!(out, "actor {number}"),
         Answer::Channel(number) => writeln!(out, "channel {number}"),
-        Answer::Refused(fault) => writeln!(out, "refused {} at {}", fault.number(), fault.place()),
+        Answer::Refused(fault) => writeln!(out, "refused {fault}"),
         Answer::Rows(rows) => push_rows(out, rows),
     }
 }

@@ -9,7 +9,7 @@ ghost use Rattle.draft.specs.Drafts.{book_of};
 
 use draft::draft::Draft;
 use rows::fault::Fault;
-use rows::row::Placement;
+use rows::row::{NewActor, Placement};
 
 // Adds a free actor under a change of its own. Where the row is refused, the change is withdrawn.
 fn add_actor(draft: &mut Draft, times: &[u32]) -> Result<usize, Fault>
@@ -18,7 +18,12 @@ fn add_actor(draft: &mut Draft, times: &[u32]) -> Result<usize, Fault>
         (λ _. book_of draft.new ≡ book_of draft.old) }
 {
     let ticket = draft.open()?;
-    let answer = draft.add_actor(&ticket, times, None, Placement::Free);
+    let actor = NewActor {
+        times,
+        not_before: None,
+        placement: Placement::Free,
+    };
+    let answer = draft.add_actor(&ticket, actor);
     match answer {
         Ok(_) => draft.keep(ticket).unwrap(),
         Err(_) => draft.withdraw(ticket).unwrap(),
@@ -32,7 +37,12 @@ fn show_elsewhere(draft: &mut Draft, other: &mut Draft, times: &[u32]) -> Result
     ensures { (book_of other.new).standing ≡ (book_of other.old).standing }
 {
     let ticket = other.open()?;
-    let answer = draft.add_actor(&ticket, times, None, Placement::Free);
+    let actor = NewActor {
+        times,
+        not_before: None,
+        placement: Placement::Free,
+    };
+    let answer = draft.add_actor(&ticket, actor);
     other.withdraw(ticket).unwrap();
     answer
 }
@@ -49,7 +59,7 @@ fn main(rt: HostRuntime) -> anyhow::Result<()> {
     for answer in [first, second, third] {
         match answer {
             Ok(number) => println!(rt; "actor {number}")?,
-            Err(fault) => println!(rt; "refused {} at {}", fault.number(), fault.place())?,
+            Err(fault) => println!(rt; "refused {fault}")?,
         }
     }
     Ok(())
