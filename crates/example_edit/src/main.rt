@@ -2,9 +2,12 @@
 
 #![tactic(auto)]
 
-ghost use Rattle.std.specs.Prelude.{◌≡◌, None, MatchResult};
+ghost use Rattle.std.specs.Prelude.{◌≡◌, true, false, None, Err, MatchResult};
+ghost use Rattle.rows.specs.Steps.{Does};
+ghost use Rattle.rows.specs.declared.fault.Fault.TheVariants.{ChangeOpen};
 ghost use Rattle.rows.specs.Table.{actor_with, add_actor};
 ghost use Rattle.rows.specs.declared.row.Placement.TheVariants.{Free};
+ghost use Rattle.draft.specs.Book.{editing};
 ghost use Rattle.draft.specs.Drafts.{book_of};
 
 use draft::draft::Draft;
@@ -13,7 +16,9 @@ use rows::row::{NewActor, Placement};
 
 // Adds a free actor under a change of its own. Where the row is refused, the change is withdrawn.
 fn add_actor(draft: &mut Draft, times: &[u32]) -> Result<usize, Fault>
-    ensures { MatchResult result
+    ensures answered { (book_of draft.old).changing ≡ false → Does (add_actor (actor_with times.now None Free)) (book_of draft.old).standing (book_of draft.new).standing result }
+    ensures waits { (book_of draft.old).changing ≡ true → result ≡ Err ChangeOpen }
+    ensures undone { MatchResult result
         (λ _. (book_of draft.new).standing ≡ (add_actor (actor_with times.now None Free)).made (book_of draft.old).standing)
         (λ _. book_of draft.new ≡ book_of draft.old) }
 {
@@ -34,7 +39,9 @@ fn add_actor(draft: &mut Draft, times: &[u32]) -> Result<usize, Fault>
 // Shows a draft the ticket of another draft's change: refused where their marks differ.
 // The change is withdrawn, so the other draft keeps the rows that stood.
 fn show_elsewhere(draft: &mut Draft, other: &mut Draft, times: &[u32]) -> Result<usize, Fault>
-    ensures { (book_of other.new).standing ≡ (book_of other.old).standing }
+    ensures answered { (book_of other.old).changing ≡ false → Does (editing (book_of other.old).mark (add_actor (actor_with times.now None Free))) (book_of draft.old) (book_of draft.new) result }
+    ensures waits { (book_of other.old).changing ≡ true → result ≡ Err ChangeOpen }
+    ensures undone { (book_of other.new).standing ≡ (book_of other.old).standing }
 {
     let ticket = other.open()?;
     let actor = NewActor {
