@@ -1,2 +1,2 @@
 pub mod Edited
-pub mod Undone
+pub mod Opened

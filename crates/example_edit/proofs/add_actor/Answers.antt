@@ -1,7 +1,7 @@
 use Rattle.std.proofs.Common.{ap, ◌∙◌, rules}
 use Rattle.rows.proofs.Steps.{when_refused}
 use Rattle.draft.specs.Book.{Book, accepts}
-use Rattle.draft.proofs.Undone.{opened_accepts}
+use Rattle.draft.proofs.Opened.{opened_accepts}
 use Rattle.example_edit.proofs.add_actor.Goals as goal
 
 pub unwrap-requires-in-Err : goal.unwrap-requires-in-Err
