@@ -1,5 +1,5 @@
 -- What stands at a place of the words.
-use Rattle.std.proofs.Common.{◌≡◌, ℕ, zero, suc, ◌<◌, ◌≤◌, true, cond, eqb, List, [], ◌∷◌, length, get_or, is_some, Some, None, Option, sym, refl, ap, ◌∙◌, arith}
+use Rattle.std.proofs.Common.{◌≡◌, ℕ, zero, suc, ◌+◌, ◌-◌, ◌<◌, ◌≤◌, true, cond, eqb, List, [], ◌∷◌, length, get_or, is_some, Some, None, Option, sym, refl, ap, ◌∙◌, arith}
 use Rattle.std.proofs.lemmas.Bool.{cond-true, cond-false, eq-eqb, ne_eqb}
 use Rattle.rows.specs.Table.{at}
 use Rattle.words.specs.Checks.{check}
@@ -61,3 +61,14 @@ module _ (ws : List ℕ) (i : ℕ) where
 
   pub numbers_lacking : (n : ℕ) → at ws i ≡ None → numbers_fault ws i (suc n) ≡ Some (Missing i)
   numbers_lacking n e = ap (λ o. goes_on n (number_by o)) e
+
+  -- the same with the numbers counted by where they end
+  pub number_passed : (end w : ℕ) → i < end → at ws i ≡ Some w → kind_of w ≡ 3 → numbers_fault ws i (end - i) ≡ numbers_fault ws (i + 1) (end - (i + 1))
+  number_passed end w h e k =
+      let more : end - i ≡ suc (end - (i + 1)) = omega arith in
+      let next : suc i ≡ i + 1 = omega arith in
+      ap (numbers_fault ws i) more ∙ numbers_more (end - (i + 1)) w e k ∙ ap (λ j. numbers_fault ws j (end - (i + 1))) next
+
+  pub number_refused : (end w : ℕ) → i < end → at ws i ≡ Some w → (kind_of w ≡ 3 → ⊥) → numbers_fault ws i (end - i) ≡ Some (wrong_kind i w)
+  number_refused end w h e k =
+      let more : end - i ≡ suc (end - (i + 1)) = omega arith in ap (numbers_fault ws i) more ∙ numbers_other (end - (i + 1)) w e k
