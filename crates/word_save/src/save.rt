@@ -13,7 +13,7 @@ use crate::fault::SaveFault;
 use rows::row::{Actor, Channel};
 use std::alloc::{AllocError, Global};
 use table::storage::Rows;
-use words::word::{ACTOR, CEILING, CHANNEL, CONTENTS, END, NOT_BEFORE, NUMBER, PIN};
+use words::word::{CONTENTS, Kind};
 
 // How many words the rows take, the end included.
 fn size(rows: &Rows) -> usize
@@ -32,7 +32,7 @@ pub fn save(rows: &Rows, out: &mut [u32]) -> Result<usize, SaveFault>
     }
     let channels_from = write_rows(rows.actors(), out, 0);
     let end = write_rows(rows.channels(), out, channels_from);
-    let _ = write_word(out, end, word_of(END, end as u32));
+    let _ = write_word(out, end, word_of(Kind::End as u32, end as u32));
     Ok(size)
 }
 
@@ -78,10 +78,10 @@ impl Encode for Actor {
 
     fn write(&self, out: &mut [u32], place: usize) -> usize {
         let times = self.times.as_slice();
-        let times_from = write_word(out, place, word_of(ACTOR, times.len() as u32));
+        let times_from = write_word(out, place, word_of(Kind::Actor as u32, times.len() as u32));
         let times_end = write_numbers(out, times_from, times);
-        let pin_from = write_option(out, times_end, NOT_BEFORE, self.not_before);
-        write_option(out, pin_from, PIN, self.placement.pin())
+        let pin_from = write_option(out, times_end, Kind::NotBefore as u32, self.not_before);
+        write_option(out, pin_from, Kind::Pin as u32, self.placement.pin())
     }
 }
 
@@ -98,10 +98,10 @@ impl Encode for Channel {
         let writes = self.writes.as_slice();
         let reads = self.reads.as_slice();
         let ends = ends_content(self.writer, self.reader, writes.len(), reads.len());
-        let writes_from = write_word(out, place, word_of(CHANNEL, ends));
+        let writes_from = write_word(out, place, word_of(Kind::Channel as u32, ends));
         let reads_from = write_numbers(out, writes_from, writes);
         let ceiling_from = write_numbers(out, reads_from, reads);
-        write_option(out, ceiling_from, CEILING, self.ceiling)
+        write_option(out, ceiling_from, Kind::Ceiling as u32, self.ceiling)
     }
 }
 
@@ -169,7 +169,7 @@ fn write_numbers(out: &mut [u32], place: usize, numbers: &[u32]) -> usize
 {
     let mut next = place;
     for n in numbers {
-        next = write_word(out, next, word_of(NUMBER, *n));
+        next = write_word(out, next, word_of(Kind::Number as u32, *n));
     }
     next
 }
