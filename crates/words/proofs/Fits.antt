@@ -6,7 +6,8 @@ use Rattle.std.proofs.lemmas.Bool.{and_parts, leb-true, lt-ltb, eqb-true}
 use Rattle.rows.specs.declared.fault.Fault.TheVariants.{PhaseCount, TimeRange, NotBeforeRange, PinRange}
 use Rattle.rows.specs.declared.row.Placement.{Placement}
 use Rattle.rows.specs.declared.row.Placement.TheVariants.{Free, Pinned}
-use Rattle.rows.specs.Table.{ActorRow, ChannelRow, Table, within, every, within_if_given, pin_within, good_rates, phases_at, pin_of, passes, actor_fault, channel_fault, lawful}
+use Rattle.std.specs.List.{list_all}
+use Rattle.rows.specs.Table.{ActorRow, ChannelRow, Table, within, within_if_given, pin_within, good_rates, phases_at, pin_of, passes, actor_fault, channel_fault, lawful}
 use Rattle.rows.proofs.Parts.{passes_none, accepted_phases, accepted}
 use Rattle.words.proofs.Checks.{check_parts}
 use Rattle.table.proofs.Lawful.{every_weaker, lawful_parts}
@@ -29,8 +30,8 @@ pin_fits : (p : Placement) → pin_within 15 p ≡ true → small_if (pin_of p) 
 pin_fits Free e = refl
 pin_fits (Pinned n) e = let p = leb-true n 15 e in let q : n < 268435456 = omega arith in lt-ltb n 268435456 q
 
-rates_small : (rates : List ℕ) → good_rates rates ≡ true → every small rates ≡ true
-rates_small rates e = every_weaker (within 0 255) small (within_small 0 255 (omega arith)) rates (and_parts (every (within 0 255) rates) _ e).0
+rates_small : (rates : List ℕ) → good_rates rates ≡ true → list_all small rates ≡ true
+rates_small rates e = every_weaker (within 0 255) small (within_small 0 255 (omega arith)) rates (and_parts (list_all (within 0 255) rates) _ e).0
 
 ticks_small : (low n : ℕ) → within low 1000000 n ≡ true → small n ≡ true
 ticks_small low = within_small low 1000000 (omega arith)
@@ -62,12 +63,12 @@ good_actor a = passes (actor_fault a)
 abbrev pub good_channel : List ActorRow → ChannelRow → Bool
 good_channel rows c = passes (channel_fault rows c)
 
-phases_few : (rows : List ActorRow) → every good_actor rows ≡ true → (i : ℕ) → phases_at rows i ≤ 8
+phases_few : (rows : List ActorRow) → list_all good_actor rows ≡ true → (i : ℕ) → phases_at rows i ≤ 8
 phases_few [] e i = omega arith
-phases_few (a ∷ rows) e zero = accepted_phases a (passes_none (actor_fault a) (and_parts (good_actor a) (every good_actor rows) e).0)
-phases_few (a ∷ rows) e (suc i) = phases_few rows (and_parts (good_actor a) (every good_actor rows) e).1 i
+phases_few (a ∷ rows) e zero = accepted_phases a (passes_none (actor_fault a) (and_parts (good_actor a) (list_all good_actor rows) e).0)
+phases_few (a ∷ rows) e (suc i) = phases_few rows (and_parts (good_actor a) (list_all good_actor rows) e).1 i
 
-module _ (rows : List ActorRow) (c : ChannelRow) (few : length rows ≤ 64) (good : every good_actor rows ≡ true) (e : channel_fault rows c ≡ None) where
+module _ (rows : List ActorRow) (c : ChannelRow) (few : length rows ≤ 64) (good : list_all good_actor rows ≡ true) (e : channel_fault rows c ≡ None) where
   pub channel_fits : ChannelFits c
   channel_fits =
       let k = accepted rows c e in
@@ -127,10 +128,10 @@ channel_few c f =
     omega arith
 
 module _ {X : Type 0} (f : X → List ℕ) where
-  joined_few : (test : X → Bool) → ((x : X) → test x ≡ true → length (f x) ≤ 258) → (xs : List X) → every test xs ≡ true → length (flat_map f xs) ≤ 258 * length xs
+  joined_few : (test : X → Bool) → ((x : X) → test x ≡ true → length (f x) ≤ 258) → (xs : List X) → list_all test xs ≡ true → length (flat_map f xs) ≤ 258 * length xs
   joined_few test few [] e = omega arith
   joined_few test few (x ∷ xs) e =
-      let p = and_parts (test x) (every test xs) e in
+      let p = and_parts (test x) (list_all test xs) e in
       let n = length-append (f x) (flat_map f xs) in
       let u = few x p.0 in
       let v = joined_few test few xs p.1 in

@@ -1,7 +1,7 @@
 -- The record at a place, by the kind of its head.
 use Rattle.std.proofs.Common.{◌≡◌, ℕ, Bool, cond, eqb, List, Some, None, Err, Option, Result, ap, ◌∙◌}
 use Rattle.std.proofs.lemmas.Bool.{cond-false, ne_eqb}
-use Rattle.rows.specs.Table.{at}
+use Rattle.std.specs.List.{slice_get}
 use Rattle.words.specs.declared.fault.WordFault.{WordFault}
 use Rattle.words.specs.declared.fault.WordFault.TheVariants.{Missing}
 use Rattle.words.specs.Format.{kind_of, content_of}
@@ -11,10 +11,10 @@ module _ (after : Bool) (ws : List ℕ) (h : ℕ) where
   abbrev pub by : Option ℕ → Result Part WordFault
   by o = elim o [ None ↦ Err (Missing h) | Some w ↦ headed_by after ws h w ]
 
-  pub no_head : at ws h ≡ None → record_at after ws h ≡ Err (Missing h)
+  pub no_head : slice_get ws h ≡ None → record_at after ws h ≡ Err (Missing h)
   no_head e = ap by e
 
-  module _ (w : ℕ) (is : at ws h ≡ Some w) where
+  module _ (w : ℕ) (is : slice_get ws h ≡ Some w) where
     pub headed : record_at after ws h ≡ headed_by after ws h w
     headed = ap by is
 

@@ -4,7 +4,7 @@ use Rattle.std.specs.List.{between}
 use Rattle.std.proofs.lemmas.List.{length-take-le, get_or-take, get_or-drop}
 use Rattle.std.proofs.lemmas.Bool.{and_parts, not-true, ltb-true, eqb-true}
 use Rattle.rows.specs.Steps.{answer}
-use Rattle.rows.specs.Table.{at}
+use Rattle.std.specs.List.{slice_get}
 use Rattle.words.specs.Checks.{check}
 use Rattle.words.proofs.Checks.{check_parts}
 use Rattle.words.specs.declared.fault.WordFault.TheVariants.{Misplaced, WrongEnd}
@@ -23,7 +23,7 @@ answer_ok (Some f) v x e = absurdly (cc)
 -- numbers that are all there
 
 module _ (ws : List ℕ) where
-  number_there : (i n : ℕ) (o : Option ℕ) → at ws i ≡ o → goes_on ws i n (number_by ws i o) ≡ None → (i < length ws) × (numbers_fault ws (suc i) n ≡ None)
+  number_there : (i n : ℕ) (o : Option ℕ) → slice_get ws i ≡ o → goes_on ws i n (number_by ws i o) ≡ None → (i < length ws) × (numbers_fault ws (suc i) n ≡ None)
   number_there i n None e z = absurdly (cc)
   number_there i n (Some w) e z = (there ws i w e, kinded (eqb (kind_of w) 3) z)
     where
@@ -34,7 +34,7 @@ module _ (ws : List ℕ) where
   pub numbers_within : (n i : ℕ) → numbers_fault ws i n ≡ None → i ≤ length ws → i + n ≤ length ws
   numbers_within zero i e h = omega arith
   numbers_within (suc n) i e h =
-      let s = number_there i n (at ws i) refl e in let l = s.0 in let r = numbers_within n (suc i) s.1 (omega arith) in omega arith
+      let s = number_there i n (slice_get ws i) refl e in let l = s.0 in let r = numbers_within n (suc i) s.1 (omega arith) in omega arith
 
   pub past_within : (i kind : ℕ) → i ≤ length ws → (i ≤ past ws i kind) × (past ws i kind ≤ length ws)
   past_within i kind h = by (is_some (given ws i kind)) refl
@@ -51,7 +51,7 @@ module _ (ws : List ℕ) where
   between_head h e l =
       let z : h + 0 ≡ h = omega arith in get_or-take (e - h) (drop h ws) 0 0 (omega arith) ∙ get_or-drop h ws 0 0 ∙ ap (λ i. get_or ws i 0) z
 
-at_is : (ws : List ℕ) (i w : ℕ) → at ws i ≡ Some w → get_or ws i 0 ≡ w
+at_is : (ws : List ℕ) (i w : ℕ) → slice_get ws i ≡ Some w → get_or ws i 0 ≡ w
 at_is [] i w e = absurdly (cc)
 at_is (x ∷ ws) zero w e = cc
 at_is (x ∷ ws) (suc i) w e = at_is ws i w e
@@ -60,7 +60,7 @@ at_is (x ∷ ws) (suc i) w e = at_is ws i w e
 
 pub record ActorRead (after : Bool) (ws : List ℕ) (h : ℕ) (part : List ℕ) : Type 0 where
   pub head : ℕ
-  pub stands : at ws h ≡ Some head
+  pub stands : slice_get ws h ≡ Some head
   pub kind : kind_of head ≡ 1
   pub first : after ≡ false
   pub few : content_of head < 256
@@ -69,7 +69,7 @@ pub record ActorRead (after : Bool) (ws : List ℕ) (h : ℕ) (part : List ℕ) 
 
 pub record ChannelRead (ws : List ℕ) (h : ℕ) (part : List ℕ) : Type 0 where
   pub head : ℕ
-  pub stands : at ws h ≡ Some head
+  pub stands : slice_get ws h ≡ Some head
   pub kind : kind_of head ≡ 2
   pub few : content_of head < 16777216
   pub numbers : numbers_fault ws (suc h) (writes_in (content_of head) + reads_in (content_of head)) ≡ None
@@ -77,7 +77,7 @@ pub record ChannelRead (ws : List ℕ) (h : ℕ) (part : List ℕ) : Type 0 wher
 
 pub record EndRead (ws : List ℕ) (h : ℕ) (part : List ℕ) : Type 0 where
   pub head : ℕ
-  pub stands : at ws h ≡ Some head
+  pub stands : slice_get ws h ≡ Some head
   pub kind : kind_of head ≡ 7
   pub count : content_of head ≡ h
   pub last : length ws ≡ suc h
@@ -88,7 +88,7 @@ module _ (after : Bool) (ws : List ℕ) (h : ℕ) where
   ReadAs (channel_part part) = ChannelRead ws h part
   ReadAs (end_part part) = EndRead ws h part
 
-  headed_as : (w : ℕ) → at ws h ≡ Some w → (part : Part) (b1 b2 b7 : Bool) → eqb (kind_of w) 1 ≡ b1 → eqb (kind_of w) 2 ≡ b2 → eqb (kind_of w) 7 ≡ b7
+  headed_as : (w : ℕ) → slice_get ws h ≡ Some w → (part : Part) (b1 b2 b7 : Bool) → eqb (kind_of w) 1 ≡ b1 → eqb (kind_of w) 2 ≡ b2 → eqb (kind_of w) 7 ≡ b7
       → cond b1 (actor_at after ws h (content_of w)) (cond b2 (channel_at ws h (content_of w)) (cond b7 (end_at ws h (content_of w)) (Err (wrong_kind h w)))) ≡ Ok part
       → ReadAs part
   headed_as w e part true b2 b7 k1 k2 k7 r =
@@ -124,7 +124,7 @@ module _ (after : Bool) (ws : List ℕ) (h : ℕ) where
       })
   headed_as w e part false false false k1 k2 k7 r = absurdly (cc)
 
-  by_head : (part : Part) (o : Option ℕ) → at ws h ≡ o → by after ws h o ≡ Ok part → ReadAs part
+  by_head : (part : Part) (o : Option ℕ) → slice_get ws h ≡ o → by after ws h o ≡ Ok part → ReadAs part
   by_head part None e r = absurdly (cc)
   by_head part (Some w) e r = headed_as w e part (eqb (kind_of w) 1) (eqb (kind_of w) 2) (eqb (kind_of w) 7) refl refl refl r
 
@@ -134,7 +134,7 @@ module _ (after : Bool) (ws : List ℕ) (h : ℕ) where
   head_there (end_part part) r = there ws h r.head r.stands
 
   pub read_as : (part : Part) → record_at after ws h ≡ Ok part → ReadAs part
-  read_as part r = by_head part (at ws h) refl r
+  read_as part r = by_head part (slice_get ws h) refl r
 
 -- the part of an actor: its head's content, its numbers, and where it ends
 
@@ -144,7 +144,7 @@ pub record Within (ws : List ℕ) (h : ℕ) (part : List ℕ) (content numbers :
   pub ends : h + length part ≤ length ws
 
 module _ (ws : List ℕ) (h : ℕ) (part : List ℕ) where
-  within : (w n e : ℕ) → at ws h ≡ Some w → suc h + n ≤ e → e ≤ length ws → between h e ws ≡ part → Within ws h part (content_of w) n
+  within : (w n e : ℕ) → slice_get ws h ≡ Some w → suc h + n ≤ e → e ≤ length ws → between h e ws ≡ part → Within ws h part (content_of w) n
   within w n e s l m is =
       let size = ap length (sym is) ∙ between_length ws h e (omega arith) m in
       record {

@@ -1,6 +1,7 @@
 -- Rows whose numbers fit the bits that the words of a table have for them.
 use Rattle.std.specs.Prelude.{◌≡◌, ℕ, ◌<◌, Bool, true, length, Some, None, Option, nat_lt}
-use Rattle.rows.specs.Table.{ActorRow, ChannelRow, every, pin_of}
+use Rattle.std.specs.List.{list_all}
+use Rattle.rows.specs.Table.{ActorRow, ChannelRow, pin_of}
 
 -- a number that fits the 28 bits of a content
 abbrev pub small : ℕ → Bool
@@ -12,7 +13,7 @@ small_if (Some n) = small n
 
 pub record ActorFits (a : ActorRow) : Type 0 where
   pub few : length a.times < 256
-  pub times_small : every small a.times ≡ true
+  pub times_small : list_all small a.times ≡ true
   pub tick_small : small_if a.not_before ≡ true
   pub pin_small : small_if (pin_of a.placement) ≡ true
 
@@ -21,6 +22,6 @@ pub record ChannelFits (c : ChannelRow) : Type 0 where
   pub reader_small : c.reader < 256
   pub few_writes : length c.writes < 16
   pub few_reads : length c.reads < 16
-  pub writes_small : every small c.writes ≡ true
-  pub reads_small : every small c.reads ≡ true
+  pub writes_small : list_all small c.writes ≡ true
+  pub reads_small : list_all small c.reads ≡ true
   pub ceiling_small : small_if c.ceiling ≡ true

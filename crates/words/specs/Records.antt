@@ -2,7 +2,8 @@
 use Rattle.std.specs.Prelude.{ℕ, zero, suc, ◌+◌, ◌/◌, ◌%◌, Bool, cond, not, ◌&&◌, List, map, length, is_some, Some, None, Err, Option, Result, ◌==◌, nat_lt, slice_index}
 use Rattle.std.specs.List.{between}
 use Rattle.rows.specs.Steps.{answer}
-use Rattle.rows.specs.Table.{ActorRow, ChannelRow, actor_with, channel_with, at, within, placed}
+use Rattle.std.specs.List.{slice_get}
+use Rattle.rows.specs.Table.{ActorRow, ChannelRow, actor_with, channel_with, within, placed}
 use Rattle.words.specs.Checks.{check}
 use Rattle.words.specs.declared.fault.WordFault.{WordFault}
 use Rattle.words.specs.declared.fault.WordFault.TheVariants.{Missing, UnknownKind, Misplaced, WrongEnd}
@@ -20,7 +21,7 @@ wrong_kind i w = cond (within 1 7 (kind_of w)) (Misplaced i) (UnknownKind i)
 
 -- why the word at place i is no number, which has kind 3
 abbrev pub number_fault : List ℕ → ℕ → Option WordFault
-number_fault ws i = elim (at ws i) [ None ↦ Some (Missing i) | Some w ↦ check (kind_of w == 3) (wrong_kind i w) None ]
+number_fault ws i = elim (slice_get ws i) [ None ↦ Some (Missing i) | Some w ↦ check (kind_of w == 3) (wrong_kind i w) None ]
 
 -- the same of the first of n words from place i on that is no number
 abbrev pub numbers_fault : List ℕ → ℕ → ℕ → Option WordFault
@@ -29,7 +30,7 @@ numbers_fault ws i (suc n) = elim (number_fault ws i) [ Some f ↦ Some f | None
 
 -- the content of the word at place i, if it is of this kind
 abbrev pub given : List ℕ → ℕ → ℕ → Option ℕ
-given ws i kind = elim (at ws i) [ None ↦ None | Some w ↦ cond (kind_of w == kind) (Some (content_of w)) None ]
+given ws i kind = elim (slice_get ws i) [ None ↦ None | Some w ↦ cond (kind_of w == kind) (Some (content_of w)) None ]
 
 -- the place after it, or i where the word is of another kind
 abbrev pub past : List ℕ → ℕ → ℕ → ℕ
@@ -73,7 +74,7 @@ headed_by after_channel ws h w =
 
 -- no actor may stand after a channel
 abbrev pub record_at : Bool → List ℕ → ℕ → Result Part WordFault
-record_at after_channel ws h = elim (at ws h) [ None ↦ Err (Missing h) | Some w ↦ headed_by after_channel ws h w ]
+record_at after_channel ws h = elim (slice_get ws h) [ None ↦ Err (Missing h) | Some w ↦ headed_by after_channel ws h w ]
 
 -- the row that the words of a record say
 

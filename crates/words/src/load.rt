@@ -14,7 +14,7 @@ use crate::record::Record;
 use crate::word::{Kind, content_of};
 use arrayvec::ArrayVec;
 use rows::fault::Fault;
-use rows::row::Placement;
+use rows::row::{NewActor, NewChannel, Placement};
 use table::storage::Rows;
 
 // Adds the rows of a whole table of words to a table without rows, or leaves that as it is.
@@ -75,7 +75,11 @@ fn add_actor(rows: &mut Rows, part: &[u32]) -> Result<usize, Fault>
     };
     let not_before = rest.given(Kind::NotBefore);
     let pin = rest.past(Kind::NotBefore).given(Kind::Pin);
-    rows.add_actor(times.as_slice(), not_before, Placement::from_pin(pin))
+    rows.add_actor(NewActor {
+        times: times.as_slice(),
+        not_before,
+        placement: Placement::from(pin),
+    })
 }
 
 // Adds the channel of a record.
@@ -92,13 +96,13 @@ fn add_channel(rows: &mut Rows, part: &[u32]) -> Result<usize, Fault>
         words: part,
         index: reads_end,
     };
-    rows.add_channel(
-        ends.writer,
-        ends.reader,
-        writes.as_slice(),
-        reads.as_slice(),
-        rest.given(Kind::Ceiling),
-    )
+    rows.add_channel(NewChannel {
+        writer: ends.writer,
+        reader: ends.reader,
+        writes: writes.as_slice(),
+        reads: reads.as_slice(),
+        ceiling: rest.given(Kind::Ceiling),
+    })
 }
 
 // The contents of the words of a list, which a head counts in 8 bits.
