@@ -7,7 +7,7 @@ ghost use Rattle.rows.specs.Table.{every};
 ghost use Rattle.rows.specs.Values.{actor_row, channel_row};
 ghost use Rattle.table.specs.Tables.{table_of};
 ghost use Rattle.words.specs.Fitting.{small, small_if, ActorFits, ChannelFits};
-ghost use Rattle.words.specs.Format.{word_of, option_words, ends_content, actor_words, channel_words, table_words};
+ghost use Rattle.words.specs.Format.{kind_number, word_of, option_words, ends_content, actor_words, channel_words, table_words};
 ghost use Rattle.word_save.specs.Saves.{saving};
 
 use crate::fault::SaveFault;
@@ -15,7 +15,7 @@ use arrayvec::ArrayVec;
 use rows::row::{Actor, Channel};
 use std::alloc::{AllocError, Global};
 use table::storage::Rows;
-use words::word::{ACTOR, CEILING, CHANNEL, CONTENTS, END, NOT_BEFORE, NUMBER, PIN};
+use words::word::{CONTENTS, Kind};
 
 // How many words the rows take, the end included.
 fn size(rows: &Rows) -> usize
@@ -57,7 +57,7 @@ fn write_table(rows: &Rows, out: &mut [u32])
     let (channel_words, end) = rest.split_at_mut(size_of(channels));
     write_rows(actors, actor_words);
     write_rows(channels, channel_words);
-    end[0] = word_of(END, (actor_words.len() + channel_words.len()) as u32);
+    end[0] = word_of(Kind::End, (actor_words.len() + channel_words.len()) as u32);
 }
 
 // The words of a record: a head, the numbers of at most two lists of phases, and an optional number.
@@ -93,10 +93,10 @@ impl Encode for Actor {
     fn encode(&self) -> Words {
         let times = self.times.as_slice();
         let mut words = ArrayVec::new();
-        words.push(word_of(ACTOR, times.len() as u32));
+        words.push(word_of(Kind::Actor, times.len() as u32));
         push_numbers(&mut words, times);
-        push_option(&mut words, NOT_BEFORE, self.not_before);
-        push_option(&mut words, PIN, self.placement.pin());
+        push_option(&mut words, Kind::NotBefore, self.not_before);
+        push_option(&mut words, Kind::Pin, self.placement.pin());
         words
     }
 }
@@ -115,10 +115,10 @@ impl Encode for Channel {
         let reads = self.reads.as_slice();
         let ends = ends_content(self.writer, self.reader, writes.len(), reads.len());
         let mut words = ArrayVec::new();
-        words.push(word_of(CHANNEL, ends));
+        words.push(word_of(Kind::Channel, ends));
         push_numbers(&mut words, writes);
         push_numbers(&mut words, reads);
-        push_option(&mut words, CEILING, self.ceiling);
+        push_option(&mut words, Kind::Ceiling, self.ceiling);
         words
     }
 }
@@ -163,9 +163,9 @@ fn option_size(number: Option<u32>) -> usize
 }
 
 // Adds a word, where there is a number for it.
-fn push_option(words: &mut Words, kind: u32, number: Option<u32>)
-    requires { (kind < 16) × ((small_if number ≡ true) × (array_vec_len words.old < 18)) }
-    ensures { words.new.items ≡ words.old.items ++ option_words kind number }
+fn push_option(words: &mut Words, kind: Kind, number: Option<u32>)
+    requires { (small_if number ≡ true) × (array_vec_len words.old < 18) }
+    ensures { words.new.items ≡ words.old.items ++ option_words (kind_number kind) number }
 {
     if let Some(n) = number {
         words.push(word_of(kind, n));
@@ -178,14 +178,14 @@ fn push_numbers(words: &mut Words, numbers: &[u32])
     ensures { words.new.items ≡ words.old.items ++ map (word_of 3) numbers.now }
 {
     for n in numbers {
-        words.push(word_of(NUMBER, *n));
+        words.push(word_of(Kind::Number, *n));
     }
 }
 
 // A word of this kind and content.
-fn word_of(kind: u32, content: u32) -> u32
-    requires { (kind < 16) × (content < 268435456) }
-    ensures { result ≡ word_of kind content }
+fn word_of(kind: Kind, content: u32) -> u32
+    requires { content < 268435456 }
+    ensures { result ≡ word_of (kind_number kind) content }
 {
-    kind * CONTENTS + content
+    kind as u32 * CONTENTS + content
 }

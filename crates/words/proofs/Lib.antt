@@ -1,5 +1,6 @@
 pub mod Checks
 pub mod Bits
+pub mod Numbered
 pub mod Fits
 pub mod Found
 pub mod Headed

@@ -2,6 +2,18 @@
 use Rattle.std.specs.Prelude.{◌≡◌, ℕ, ◌+◌, ◌*◌, ◌/◌, ◌%◌, true, List, [], ◌∷◌, ◌++◌, map, length, Some, None, Option}
 use Rattle.std.specs.List.{flat_map}
 use Rattle.rows.specs.Table.{ActorRow, ChannelRow, Table, lawful, pin_of}
+use Rattle.words.specs.declared.word.Kind.{Kind}
+use Rattle.words.specs.declared.word.Kind.TheVariants.{Actor, Channel, Number, NotBefore, Pin, Ceiling, End}
+
+-- the number of each kind
+abbrev pub kind_number : Kind → ℕ
+kind_number Actor = 1
+kind_number Channel = 2
+kind_number Number = 3
+kind_number NotBefore = 4
+kind_number Pin = 5
+kind_number Ceiling = 6
+kind_number End = 7
 
 abbrev pub kind_of : ℕ → ℕ
 kind_of w = w / 268435456

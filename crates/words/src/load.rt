@@ -9,7 +9,7 @@ ghost use Rattle.words.specs.Loads.{loading, rows_from, is_empty, has_channels};
 
 use crate::fault::{LoadFault, WordFault};
 use crate::record::{Record, given, past, reads_in, writes_in};
-use crate::word::{CEILING, NOT_BEFORE, PIN, content_of};
+use crate::word::{Kind, content_of};
 use rows::fault::Fault;
 use rows::row::Placement;
 use table::storage::Rows;
@@ -74,8 +74,8 @@ fn add_actor(rows: &mut Rows, part: &[u32]) -> Result<usize, Fault>
 {
     let count = content_of(part[0]) as usize;
     let times = contents(&part[1..count + 1]);
-    let not_before = given(part, count + 1, NOT_BEFORE);
-    let pin = given(part, past(part, count + 1, NOT_BEFORE), PIN);
+    let not_before = given(part, count + 1, Kind::NotBefore);
+    let pin = given(part, past(part, count + 1, Kind::NotBefore), Kind::Pin);
     rows.add_actor(&times[0..count], not_before, Placement::from_pin(pin))
 }
 
@@ -94,7 +94,7 @@ fn add_channel(rows: &mut Rows, part: &[u32]) -> Result<usize, Fault>
         reader_in(head),
         &writes[0..writes_in(head)],
         &reads[0..reads_in(head)],
-        given(part, reads_end, CEILING),
+        given(part, reads_end, Kind::Ceiling),
     )
 }
 

@@ -1,10 +1,11 @@
 // The records of a table of words.
 ghost use Rattle.std.specs.Prelude.{◌≡◌, ◌+◌, ◌<◌, ◌≤◌, ◌&&◌, length, Some, None, Ok, Err, MatchResult};
+ghost use Rattle.words.specs.Format.{kind_number};
 ghost use Rattle.words.specs.Parts.{ReadsPart};
 ghost use Rattle.words.specs.Records.{given, past, numbers_fault, wrong_kind, record_at, actor_at, channel_at, end_at, writes_in, reads_in};
 
 use crate::fault::WordFault;
-use crate::word::{ACTOR, CEILING, CHANNEL, END, NOT_BEFORE, NUMBER, PIN, content_of, kind_of};
+use crate::word::{Kind, content_of};
 
 // A record: its part of the caller's words, from its head on.
 #[derive(Clone, Copy)]
@@ -23,10 +24,10 @@ impl<'a> Record<'a> {
             return Err(WordFault::Missing(head));
         };
         let content = content_of(*word);
-        match kind_of(*word) {
-            ACTOR => actor(words, head, content, after_channel),
-            CHANNEL => channel(words, head, content),
-            END => table_end(words, head, content),
+        match Kind::of(*word) {
+            Some(Kind::Actor) => actor(words, head, content, after_channel),
+            Some(Kind::Channel) => channel(words, head, content),
+            Some(Kind::End) => table_end(words, head, content),
             _ => Err(wrong_kind(head, *word)),
         }
     }
@@ -46,7 +47,7 @@ fn actor<'a>(
         return Err(WordFault::Misplaced(head));
     }
     let numbers_end = past_numbers(words, head + 1, content as usize)?;
-    let end = past(words, past(words, numbers_end, NOT_BEFORE), PIN);
+    let end = past(words, past(words, numbers_end, Kind::NotBefore), Kind::Pin);
     Ok(Record::Actor(&words[head..end]))
 }
 
@@ -60,7 +61,7 @@ fn channel<'a>(words: &'a [u32], head: usize, content: u32) -> Result<Record<'a>
     }
     let rates = writes_in(content) + reads_in(content);
     let numbers_end = past_numbers(words, head + 1, rates)?;
-    let end = past(words, numbers_end, CEILING);
+    let end = past(words, numbers_end, Kind::Ceiling);
     Ok(Record::Channel(&words[head..end]))
 }
 
@@ -88,7 +89,7 @@ fn past_numbers(words: &[u32], from: usize, count: usize) -> Result<usize, WordF
         let Some(word) = words.get(place) else {
             return Err(WordFault::Missing(place));
         };
-        if kind_of(*word) != NUMBER {
+        if Kind::of(*word) != Some(Kind::Number) {
             return Err(wrong_kind(place, *word));
         }
         place += 1;
@@ -100,31 +101,29 @@ fn past_numbers(words: &[u32], from: usize, count: usize) -> Result<usize, WordF
 fn wrong_kind(place: usize, word: u32) -> WordFault
     ensures { result ≡ wrong_kind place word }
 {
-    let kind = kind_of(word);
-    if ACTOR <= kind && kind <= END {
-        WordFault::Misplaced(place)
-    } else {
-        WordFault::UnknownKind(place)
+    match Kind::of(word) {
+        Some(_) => WordFault::Misplaced(place),
+        None => WordFault::UnknownKind(place),
     }
 }
 
 // The content of the word at this place, if it is of this kind.
-pub(crate) fn given(words: &[u32], place: usize, kind: u32) -> Option<u32>
-    ensures { result ≡ given words.now place kind }
+pub(crate) fn given(words: &[u32], place: usize, kind: Kind) -> Option<u32>
+    ensures { result ≡ given words.now place (kind_number kind) }
 {
     let Some(word) = words.get(place) else {
         return None;
     };
-    if kind_of(*word) != kind {
+    if Kind::of(*word) != Some(kind) {
         return None;
     }
     Some(content_of(*word))
 }
 
 // The place after a word of this kind, if it stands at this place.
-pub(crate) fn past(words: &[u32], place: usize, kind: u32) -> usize
+pub(crate) fn past(words: &[u32], place: usize, kind: Kind) -> usize
     requires { place ≤ length words.now }
-    ensures value { result ≡ past words.now place kind }
+    ensures value { result ≡ past words.now place (kind_number kind) }
     ensures within { (place ≤ result) × (result ≤ length words.now) }
 {
     if given(words, place, kind).is_some() {

@@ -41,7 +41,7 @@ write_rows-requires-2-clause-fit c = channels_fit (table_of c.args.rows.now) c.a
 
 pub word_of-requires : goal.word_of-requires
 word_of-requires c =
-    let s = sizes (table_of c.args.rows.now) c.args.rows.now.accepted _ _ c.actors-actors.ensures c.channels-channels.ensures in (omega arith, omega arith)
+    let s = sizes (table_of c.args.rows.now) c.args.rows.now.accepted _ _ c.actors-actors.ensures c.channels-channels.ensures in omega arith
 
 pub bounds-end-0 : goal.bounds-end-0
 bounds-end-0 c =

@@ -1,0 +1,54 @@
+-- Each kind has a number of its own, 1 to 7.
+use Rattle.std.proofs.Common.{◌≡◌, ℕ, ◌+◌, ◌<◌, true, false, cond, eqb, leb, Some, None, Option, MatchOption, sym, refl, ap, ◌∙◌, arith}
+use Rattle.std.proofs.lemmas.Bool.{and_parts, leb-true}
+use Rattle.rows.specs.Table.{within}
+use Rattle.words.specs.declared.word.Kind.{Kind}
+use Rattle.words.specs.declared.word.Kind.TheVariants.{Actor, Channel, Number, NotBefore, Pin, Ceiling, End}
+use Rattle.words.specs.contracts.word.Kind.{the_type}
+use denote.Enum.Declared.{tag_of}
+use Rattle.words.specs.Format.{kind_number}
+
+-- what `kind as u32` gives
+pub kind_cast : (kind : Kind) → tag_of the_type kind + 1 ≡ kind_number kind
+kind_cast Actor = refl
+kind_cast Channel = refl
+kind_cast Number = refl
+kind_cast NotBefore = refl
+kind_cast Pin = refl
+kind_cast Ceiling = refl
+kind_cast End = refl
+
+pub kind_within : (kind : Kind) → within 1 7 (kind_number kind) ≡ true
+kind_within Actor = refl
+kind_within Channel = refl
+kind_within Number = refl
+kind_within NotBefore = refl
+kind_within Pin = refl
+kind_within Ceiling = refl
+kind_within End = refl
+
+pub kind_below : (kind : Kind) → kind_number kind < 8
+kind_below kind =
+    let h = leb-true (kind_number kind) 7 (and_parts (leb 1 (kind_number kind)) (leb (kind_number kind) 7) (kind_within kind)).1 in omega arith
+
+numbered : ℕ → Option Kind
+numbered n =
+    cond (eqb n 1) (Some Actor)
+    (cond (eqb n 2) (Some Channel)
+    (cond (eqb n 3) (Some Number)
+    (cond (eqb n 4) (Some NotBefore) (cond (eqb n 5) (Some Pin) (cond (eqb n 6) (Some Ceiling) (cond (eqb n 7) (Some End) None))))))
+
+numbered_again : (kind : Kind) → numbered (kind_number kind) ≡ Some kind
+unfolding numbered
+numbered_again Actor = refl
+numbered_again Channel = refl
+numbered_again Number = refl
+numbered_again NotBefore = refl
+numbered_again Pin = refl
+numbered_again Ceiling = refl
+numbered_again End = refl
+
+-- a word of this number has no other kind
+pub only_kind : (o : Option Kind) (n : ℕ) (kind : Kind) → MatchOption o (within 1 7 n ≡ false) (λ k. n ≡ kind_number k) → n ≡ kind_number kind → o ≡ Some kind
+only_kind None n kind h e = let no : false ≡ true = sym h ∙ ap (within 1 7) e ∙ kind_within kind in cc
+only_kind (Some k) n kind h e = sym (numbered_again k) ∙ ap numbered (sym h ∙ e) ∙ numbered_again kind
