@@ -146,6 +146,7 @@ fn write_rows<T: Encode>(rows: &[T], out: &mut [u32])
     requires room { length out.old ≡ length (flat_map T.Encode.words rows.now) }
     ensures { out.new ≡ flat_map T.Encode.words rows.now }
 {
+    // By place: of a slice that moves along, a proof knows only the part that is left.
     let mut place = 0;
     for row in rows {
         let words = row.encode();
