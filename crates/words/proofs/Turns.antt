@@ -1,5 +1,5 @@
 -- The records of a table of words, one after the other.
-use Rattle.std.proofs.Common.{◌≡◌, ℕ, zero, suc, ◌+◌, ◌<◌, ◌≤◌, List, length, Some, None, Ok, Err, Option, Result, sym, refl, ap, ◌∙◌, subst, arith}
+use Rattle.std.proofs.Common.{◌≡◌, ℕ, zero, suc, ◌+◌, ◌<◌, ◌≤◌, List, length, Some, None, Ok, Err, Option, Result, sym, ap, ◌∙◌, subst, arith}
 use Rattle.rows.specs.declared.fault.Fault.{Fault}
 use Rattle.rows.specs.Steps.{Does}
 use Rattle.rows.specs.Table.{Table, add_actor, add_channel}
@@ -12,7 +12,7 @@ use Rattle.words.specs.Records.{Part, actor_part, channel_part, end_part, record
 use Rattle.words.specs.Loads.{rows_from, has_channels}
 use Rattle.words.proofs.Found.{lacking}
 use Rattle.words.proofs.Headed.{no_head}
-use Rattle.words.proofs.Whole.{read_as, actor_within, channel_within}
+use Rattle.words.proofs.Whole.{head_there, read_as, actor_within, channel_within}
 
 module _ (n : ℕ) (ws : List ℕ) (h : ℕ) (t : Table) where
   abbrev actor_added : List ℕ → Option Fault → Result Table LoadFault
@@ -53,20 +53,11 @@ module _ (n : ℕ) (ws : List ℕ) (h : ℕ) (t : Table) where
     pub channel_taken : (add_channel (channel_of words)).fault t ≡ None → rows_from (suc n) ws h t ≡ rows_from n ws (h + length words) ((add_channel (channel_of words)).made t)
     channel_taken o = ap read e ∙ ap (channel_added words) o
 
--- where the words run out
-pub run_out : (n : ℕ) (ws : List ℕ) (h : ℕ) (t : Table) → length ws ≤ h → rows_from n ws h t ≡ Err (Word (Missing h))
-run_out zero ws h t l = refl
-run_out (suc n) ws h t l = unreadable n ws h t (Missing h) (no_head (has_channels t) ws h (lacking ws h l))
-
 -- the answer for all the words is the answer for those to come, with so many records at most
 pub record Coming (ws : List ℕ) (all : Result Table LoadFault) (h : ℕ) (t : Table) : Type 0 where
   pub records : ℕ
   pub same : all ≡ rows_from records ws h t
   pub enough : length ws ≤ h + records
-
-module _ (ws : List ℕ) (all : Result Table LoadFault) (h : ℕ) (t : Table) (c : Coming ws all h t) where
-  pub over : length ws ≤ h → all ≡ Err (Word (Missing h))
-  over l = c.same ∙ run_out c.records ws h t l
 
 -- and there is one at least while words are left
 pub record Next (ws : List ℕ) (all : Result Table LoadFault) (h : ℕ) (t : Table) : Type 0 where
@@ -98,18 +89,27 @@ same_adds t after was r s part other m n a b p q d =
     subst (λ x. Adds t x r part m) (sym a)
     (subst (λ x. Adds t was x part m) (sym b) (subst (λ x. Adds t was s x m) (sym p) (subst (λ x. Adds t was s other x) (sym q) d)))
 
-module _ (ws : List ℕ) (all : Result Table LoadFault) (h : ℕ) (t : Table) (c : Coming ws all h t) (l : h < length ws) where
+module _ (ws : List ℕ) (all : Result Table LoadFault) (h : ℕ) (t : Table) (c : Coming ws all h t) where
+  -- where no record is read; where the words run out, none is
   pub stopped : (f : WordFault) → record_at (has_channels t) ws h ≡ Err f → all ≡ Err (Word f)
-  stopped f e = let n = turn ws all h t c l in n.same ∙ unreadable n.later ws h t f e
+  stopped f e = by c.records c.same c.enough
+    where
+      by : (k : ℕ) → all ≡ rows_from k ws h t → length ws ≤ h + k → all ≡ Err (Word f)
+      by zero s m = let r = sym (no_head (has_channels t) ws h (lacking ws h (omega arith))) ∙ e in let same : Missing h ≡ f = cc in s ∙ ap (λ g. Err (Word g)) same
+      by (suc n) s m = s ∙ unreadable n ws h t f e
+
+  -- and one that is read has its head there
+  ahead : (part : Part) → record_at (has_channels t) ws h ≡ Ok part → Next ws all h t
+  ahead part e = turn ws all h t c (head_there (has_channels t) ws h part (read_as (has_channels t) ws h part e))
 
   pub finished : (words : List ℕ) → record_at (has_channels t) ws h ≡ Ok (end_part words) → all ≡ Ok t
-  finished words e = let n = turn ws all h t c l in n.same ∙ ended n.later ws h t words e
+  finished words e = let n = ahead (end_part words) e in n.same ∙ ended n.later ws h t words e
 
   pub row_refused : (after : Table) (f : Fault) (part : Part) (m : ℕ) → record_at (has_channels t) ws h ≡ Ok part → Adds t after (Err f) part m → all ≡ Err (Row h f)
   row_refused after f part m e (adds_actor_lem words d) =
-      let n = turn ws all h t c l in n.same ∙ actor_refused n.later ws h t words e f (when_refused (add_actor (actor_of words)) t after f d).0
+      let n = ahead (actor_part words) e in n.same ∙ actor_refused n.later ws h t words e f (when_refused (add_actor (actor_of words)) t after f d).0
   row_refused after f part m e (adds_channel_lem words d) =
-      let n = turn ws all h t c l in n.same ∙ channel_refused n.later ws h t words e f (when_refused (add_channel (channel_of words)) t after f d).0
+      let n = ahead (channel_part words) e in n.same ∙ channel_refused n.later ws h t words e f (when_refused (add_channel (channel_of words)) t after f d).0
 
   -- the record has a word or more, and ends within the words
   pub moves : (after : Table) (r : Result ℕ Fault) (part : Part) (m : ℕ) → record_at (has_channels t) ws h ≡ Ok part → Adds t after r part m → (0 < m) × (h + m ≤ length ws)
@@ -122,12 +122,12 @@ module _ (ws : List ℕ) (all : Result Table LoadFault) (h : ℕ) (t : Table) (c
 
   pub row_taken : (after : Table) (v : ℕ) (part : Part) (m : ℕ) → record_at (has_channels t) ws h ≡ Ok part → Adds t after (Ok v) part m → Coming ws all (h + m) after
   row_taken after v part m e (adds_actor_lem words d) =
-      let n = turn ws all h t c l in
+      let n = ahead (actor_part words) e in
       let g = when_granted (add_actor (actor_of words)) t after v d in
       coming ws all h (length words) t after n (moves after (Ok v) (actor_part words) (length words) e (adds_actor_lem words d)).0
       (actor_taken n.later ws h t words e g.0 ∙ ap (rows_from n.later ws (h + length words)) (sym g.2))
   row_taken after v part m e (adds_channel_lem words d) =
-      let n = turn ws all h t c l in
+      let n = ahead (channel_part words) e in
       let g = when_granted (add_channel (channel_of words)) t after v d in
       coming ws all h (length words) t after n (moves after (Ok v) (channel_part words) (length words) e (adds_channel_lem words d)).0
       (channel_taken n.later ws h t words e g.0 ∙ ap (rows_from n.later ws (h + length words)) (sym g.2))

@@ -128,6 +128,11 @@ module _ (after : Bool) (ws : List ℕ) (h : ℕ) where
   by_head part None e r = absurdly (cc)
   by_head part (Some w) e r = headed_as w e part (eqb (kind_of w) 1) (eqb (kind_of w) 2) (eqb (kind_of w) 7) refl refl refl r
 
+  pub head_there : (part : Part) → ReadAs part → h < length ws
+  head_there (actor_part part) r = there ws h r.head r.stands
+  head_there (channel_part part) r = there ws h r.head r.stands
+  head_there (end_part part) r = there ws h r.head r.stands
+
   pub read_as : (part : Part) → record_at after ws h ≡ Ok part → ReadAs part
   read_as part r = by_head part (at ws h) refl r
 

@@ -1,11 +1,12 @@
 // Why words are no table, and why a load is refused.
 ghost use Rattle.std.specs.Prelude.{◌≡◌};
+ghost use Rattle.words.specs.declared.fault.LoadFault.TheVariants.{Word};
 ghost use Rattle.words.specs.Faults.{shown_word, shown_load};
 
 use rows::fault::Fault;
 
 // What is wrong with a table of words, each case with the place of the first offending word.
-#[derive(Clone, Copy)]
+#[derive(Clone, Copy, PartialEq, Eq, Debug)]
 pub enum WordFault {
     // The words run out before the table's end: the word at this place is missing.
     Missing(usize),
@@ -35,16 +36,16 @@ impl WordFault {
         ensures { result ≡ (shown_word self).1 }
     {
         match self {
-            WordFault::Missing(place) => place,
-            WordFault::UnknownKind(place) => place,
-            WordFault::Misplaced(place) => place,
-            WordFault::WrongEnd(place) => place,
+            WordFault::Missing(place)
+            | WordFault::UnknownKind(place)
+            | WordFault::Misplaced(place)
+            | WordFault::WrongEnd(place) => place,
         }
     }
 }
 
 // Why words are not loaded.
-#[derive(Clone, Copy)]
+#[derive(Clone, Copy, PartialEq, Eq, Debug)]
 pub enum LoadFault {
     // A load is not shown a ticket that is accepted. Loading the rows of a table asks for none.
     TicketRefused,
@@ -64,7 +65,7 @@ impl LoadFault {
             LoadFault::TicketRefused => 2,
             LoadFault::HasRows => 28,
             LoadFault::Word(fault) => fault.number(),
-            LoadFault::Row { head: _, fault } => fault.number(),
+            LoadFault::Row { fault, .. } => fault.number(),
         }
     }
 
@@ -73,10 +74,17 @@ impl LoadFault {
         ensures { result ≡ (shown_load self).1 }
     {
         match self {
-            LoadFault::TicketRefused => 0,
-            LoadFault::HasRows => 0,
+            LoadFault::TicketRefused | LoadFault::HasRows => 0,
             LoadFault::Word(fault) => fault.place(),
-            LoadFault::Row { head, fault: _ } => head,
+            LoadFault::Row { head, .. } => head,
         }
+    }
+}
+
+impl From<WordFault> for LoadFault {
+    ghost from_gives = { λ fault f. f ≡ Word fault };
+
+    fn from(fault: WordFault) -> LoadFault {
+        LoadFault::Word(fault)
     }
 }

@@ -3,6 +3,8 @@
 #![tactic(auto)]
 
 pub mod fault;
+mod head;
 pub mod load;
+mod place;
 pub mod record;
 pub mod word;

@@ -1,15 +1,18 @@
 // Rows loaded from a table of words.
-ghost use Rattle.std.specs.Prelude.{◌≡◌, suc, ◌+◌, ◌<◌, ◌≤◌, map, length, take, Ok, Err, MatchResult};
+ghost use Rattle.std.specs.Prelude.{◌≡◌, suc, ◌+◌, ◌<◌, ◌≤◌, map, length, Ok, Err, MatchResult};
 ghost use Rattle.rows.specs.Steps.{Does};
 ghost use Rattle.rows.specs.Table.{add_actor, add_channel};
 ghost use Rattle.table.specs.Tables.{table_of};
 ghost use Rattle.words.specs.Format.{content_of};
-ghost use Rattle.words.specs.Records.{head_content, actor_of, channel_of, writer_in, reader_in, writes_in, reads_in};
+ghost use Rattle.words.specs.Records.{head_content, actor_of, channel_of, writes_in, reads_in};
 ghost use Rattle.words.specs.Loads.{loading, rows_from, is_empty, has_channels};
 
-use crate::fault::{LoadFault, WordFault};
-use crate::record::{Record, given, past, reads_in, writes_in};
+use crate::fault::LoadFault;
+use crate::head::Ends;
+use crate::place::Place;
+use crate::record::Record;
 use crate::word::{Kind, content_of};
+use arrayvec::ArrayVec;
 use rows::fault::Fault;
 use rows::row::Placement;
 use table::storage::Rows;
@@ -21,13 +24,11 @@ pub fn load(rows: &mut Rows, words: &[u32]) -> Result<usize, LoadFault>
     if !is_empty(rows) {
         return Err(LoadFault::HasRows);
     }
-    match add_records(rows, words) {
-        Ok(()) => Ok(words.len()),
-        Err(fault) => {
-            rows.clear();
-            Err(fault)
-        }
+    if let Err(fault) = add_records(rows, words) {
+        rows.clear();
+        return Err(fault);
     }
+    Ok(words.len())
 }
 
 fn is_empty(rows: &Rows) -> bool
@@ -49,22 +50,15 @@ fn add_records(rows: &mut Rows, words: &[u32]) -> Result<(), LoadFault>
         (λ f. rows_from (length words.now) words.now 0 (table_of rows.old) ≡ Err f) }
 {
     let mut head = 0;
-    while head < words.len() {
-        let record = match Record::read(words, head, has_channels(rows)) {
-            Ok(record) => record,
-            Err(fault) => return Err(LoadFault::Word(fault)),
-        };
-        let (part, added) = match record {
+    loop {
+        let (part, added) = match Record::read(words, head, has_channels(rows))? {
             Record::Actor(part) => (part, add_actor(rows, part)),
             Record::Channel(part) => (part, add_channel(rows, part)),
             Record::End(_) => return Ok(()),
         };
-        if let Err(fault) = added {
-            return Err(LoadFault::Row { head, fault });
-        }
+        added.map_err(|fault| LoadFault::Row { head, fault })?;
         head += part.len();
     }
-    Err(LoadFault::Word(WordFault::Missing(head)))
 }
 
 // Adds the actor of a record.
@@ -74,9 +68,13 @@ fn add_actor(rows: &mut Rows, part: &[u32]) -> Result<usize, Fault>
 {
     let count = content_of(part[0]) as usize;
     let times = contents(&part[1..count + 1]);
-    let not_before = given(part, count + 1, Kind::NotBefore);
-    let pin = given(part, past(part, count + 1, Kind::NotBefore), Kind::Pin);
-    rows.add_actor(&times[0..count], not_before, Placement::from_pin(pin))
+    let rest = Place {
+        words: part,
+        index: count + 1,
+    };
+    let not_before = rest.given(Kind::NotBefore);
+    let pin = rest.past(Kind::NotBefore).given(Kind::Pin);
+    rows.add_actor(times.as_slice(), not_before, Placement::from_pin(pin))
 }
 
 // Adds the channel of a record.
@@ -84,41 +82,32 @@ fn add_channel(rows: &mut Rows, part: &[u32]) -> Result<usize, Fault>
     requires { suc (writes_in (head_content part.now) + reads_in (head_content part.now)) ≤ length part.now }
     ensures { Does (add_channel (channel_of part.now)) (table_of rows.old) (table_of rows.new) result }
 {
-    let head = content_of(part[0]);
-    let writes_end = writes_in(head) + 1;
-    let reads_end = writes_end + reads_in(head);
+    let ends = Ends::of(content_of(part[0]));
+    let writes_end = ends.writes + 1;
+    let reads_end = writes_end + ends.reads;
     let writes = contents(&part[1..writes_end]);
     let reads = contents(&part[writes_end..reads_end]);
+    let rest = Place {
+        words: part,
+        index: reads_end,
+    };
     rows.add_channel(
-        writer_in(head),
-        reader_in(head),
-        &writes[0..writes_in(head)],
-        &reads[0..reads_in(head)],
-        given(part, reads_end, Kind::Ceiling),
+        ends.writer,
+        ends.reader,
+        writes.as_slice(),
+        reads.as_slice(),
+        rest.given(Kind::Ceiling),
     )
 }
 
-// The fields of a channel's head: its writer and its reader.
-fn writer_in(content: u32) -> usize
-    ensures { result ≡ writer_in content }
-{
-    (content % 0x100) as usize
-}
-
-fn reader_in(content: u32) -> usize
-    ensures { result ≡ reader_in content }
-{
-    (content / 0x100 % 0x100) as usize
-}
-
 // The contents of the words of a list, which a head counts in 8 bits.
-fn contents(words: &[u32]) -> [u32; 255]
+fn contents(words: &[u32]) -> ArrayVec<u32, 255>
     requires { length words.now ≤ 255 }
-    ensures { take (length words.now) result ≡ map content_of words.now }
+    ensures { result.items ≡ map content_of words.now }
 {
-    let mut numbers = [0; 255];
-    for (i, word) in words.iter().enumerate() {
-        numbers[i] = content_of(*word);
+    let mut numbers = ArrayVec::new();
+    for word in words {
+        numbers.push(content_of(*word));
     }
     numbers
 }

@@ -4,8 +4,8 @@ use Rattle.words.specs.Loads.{rows_from}
 use Rattle.words.proofs.Turns.{Coming}
 use Rattle.words.proofs.load.add_records.Given as goal
 
-abbrev pub invariant-loop-head : goal.invariant-loop-head
-invariant-loop-head l = Coming l.words (rows_from (length l.words) l.words 0 (table_of l.initial.rows)) l.head (table_of l.rows)
+abbrev pub invariant-loop-part : goal.invariant-loop-part
+invariant-loop-part l = Coming l.words (rows_from (length l.words) l.words 0 (table_of l.initial.rows)) l.head (table_of l.rows)
 
-abbrev pub decreases-loop-head : goal.decreases-loop-head
-decreases-loop-head l = length l.words - l.head
+abbrev pub decreases-loop-part : goal.decreases-loop-part
+decreases-loop-part l = length l.words - l.head
