@@ -16,7 +16,7 @@ use table::storage::Rows;
 use word_save::save::{save, saved};
 use words::fault::LoadFault;
 use words::load::load;
-use words::word::CONTENTS;
+use words::word::{CONTENTS, Kind};
 
 // Actors and channels with and without each part that they may have.
 const TABLE: [u32; 30] = [
@@ -96,7 +96,8 @@ impl Trials {
 
     // Adds the answer to a load of these words to a line.
     fn show(&mut self, words: &[u32]) -> Result<(), AllocError>
-        ensures { OnOk result (string_bytes self.new.text ≡ string_bytes self.old.text ++ 32 ∷ pair_text (told_of (table_read words.now) (length words.now))) }
+        ensures { OnOk result
+            (string_bytes self.new.text ≡ string_bytes self.old.text ++ 32 ∷ pair_text (told_of (table_read words.now) (length words.now))) }
     {
         let answer = Answer(told(&mut self.rows, words).map_err(|fault| (
             fault.number(),
@@ -128,7 +129,8 @@ impl Trials {
         for place in 0..TABLE.len() {
             self.text.push_str("kinds")?;
             for kind in 0..16 {
-                self.show_damaged(|words| words[place] = kind << 28 | words[place] % CONTENTS)?;
+                self.show_damaged(|words| words[place] = kind * CONTENTS
+                    + words[place] % CONTENTS)?;
             }
             self.text.push_str("\n")?;
         }
@@ -218,31 +220,36 @@ impl Trials {
 }
 
 // A table of so many actors and channels, each of so many phases, with every part that a row may have where it has eight.
-fn regular(heap: Global, actors: u32, channels: u32, phases: u32) -> Result<Vec<u32>, AllocError> {
+fn regular(heap: Global, actors: u32, channels: u32, phases: u8) -> Result<Vec<u32>, AllocError> {
+    let phases = u32::from(phases);
     let mut words = Vec::new(heap);
     for _ in 0..actors {
-        words.push(0x1000_0000 | phases)?;
+        words.push(word(Kind::Actor, phases))?;
         for _ in 0..phases {
-            words.push(0x3000_0001)?;
+            words.push(word(Kind::Number, 1))?;
         }
         if phases == 8 {
-            words.push(0x4000_0000)?;
-            words.push(0x5000_0000)?;
+            words.push(word(Kind::NotBefore, 0))?;
+            words.push(word(Kind::Pin, 0))?;
         }
     }
     for _ in 0..channels {
-        words.push(0x2000_0100 | phases.wrapping_mul(0x11_0000))?;
-        for _ in 0..phases {
-            words.push(0x3000_0001)?;
-            words.push(0x3000_0001)?;
+        words.push(word(Kind::Channel, 0x100 | phases * 0x11_0000))?;
+        for _ in 0..2 * phases {
+            words.push(word(Kind::Number, 1))?;
         }
         if phases == 8 {
-            words.push(0x6000_0001)?;
+            words.push(word(Kind::Ceiling, 1))?;
         }
     }
-    let count = words.len();
-    words.push(0x7000_0000 | (count % 0x1000_0000) as u32)?;
+    let count = words.len() % CONTENTS as usize;
+    words.push(word(Kind::End, count as u32))?;
     Ok(words)
+}
+
+// A word of this kind, with the bits of this content.
+fn word(kind: Kind, content: u32) -> u32 {
+    kind as u32 * CONTENTS | content
 }
 
 fn main(rt: HostRuntime) -> anyhow::Result<()> {
@@ -255,7 +262,6 @@ fn main(rt: HostRuntime) -> anyhow::Result<()> {
     trials.left_out_and_doubled()?;
     trials.many_rows()?;
     trials.into_space()?;
-    let text = &trials.text;
-    print!(rt; "{text}")?;
+    print!(rt; "{}", trials.text)?;
     Ok(())
 }

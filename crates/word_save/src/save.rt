@@ -111,25 +111,24 @@ impl Encode for Channel {
     }
 
     fn encode(&self) -> Words {
-        let writes = self.writes.as_slice();
-        let reads = self.reads.as_slice();
-        let ends = ends_content(self.writer, self.reader, writes.len(), reads.len());
         let mut words = ArrayVec::new();
-        words.push(word_of(Kind::Channel, ends));
-        push_numbers(&mut words, writes);
-        push_numbers(&mut words, reads);
+        words.push(word_of(Kind::Channel, ends_content(self)));
+        push_numbers(&mut words, self.writes.as_slice());
+        push_numbers(&mut words, self.reads.as_slice());
         push_option(&mut words, Kind::Ceiling, self.ceiling);
         words
     }
 }
 
 // The content of a channel's head.
-fn ends_content(writer: usize, reader: usize, writes: usize, reads: usize) -> u32
-    requires { (writer < 256) × ((reader < 256) × ((writes < 16) × (reads < 16))) }
-    ensures value { result ≡ ends_content writer reader writes reads }
+fn ends_content(channel: &Channel) -> u32
+    requires { ChannelFits (channel_row channel.now) }
+    ensures value { let c = channel_row channel.now in result ≡ ends_content c.writer c.reader (length c.writes) (length c.reads) }
     ensures small { result < 268435456 }
 {
-    (writer + 0x100 * reader + 0x1_0000 * writes + 0x10_0000 * reads) as u32
+    let writes = channel.writes.as_slice().len();
+    let reads = channel.reads.as_slice().len();
+    (channel.writer + 0x100 * channel.reader + 0x1_0000 * writes + 0x10_0000 * reads) as u32
 }
 
 // How many words the rows have.
