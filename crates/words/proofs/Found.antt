@@ -1,5 +1,5 @@
 -- What stands at a place of the words.
-use Rattle.std.proofs.Common.{◌≡◌, ℕ, zero, suc, ◌<◌, ◌≤◌, true, cond, eqb, List, [], ◌∷◌, length, get_or, is_some, Some, None, Option, sym, refl, ap, ◌∙◌, arith}
+use Rattle.std.proofs.Common.{◌≡◌, ℕ, zero, suc, ◌+◌, ◌-◌, ◌<◌, ◌≤◌, true, cond, eqb, List, [], ◌∷◌, length, get_or, is_some, Some, None, Option, sym, refl, ap, ◌∙◌, arith}
 use Rattle.std.proofs.lemmas.Bool.{cond-true, cond-false, eq-eqb, ne_eqb}
 use Rattle.rows.specs.Table.{at}
 use Rattle.words.specs.Checks.{check}
@@ -27,15 +27,6 @@ module _ (ws : List ℕ) (i kind : ℕ) where
   abbrev pub given_by : Option ℕ → Option ℕ
   given_by o = elim o [ None ↦ None | Some w ↦ cond (eqb (kind_of w) kind) (Some (content_of w)) None ]
 
-  pub given_found : (w : ℕ) → at ws i ≡ Some w → kind_of w ≡ kind → given ws i kind ≡ Some (content_of w)
-  given_found w e k = ap given_by e ∙ cond-true _ (Some (content_of w)) None (eq-eqb (kind_of w) kind k)
-
-  pub given_other : (w : ℕ) → at ws i ≡ Some w → (kind_of w ≡ kind → ⊥) → given ws i kind ≡ None
-  given_other w e k = ap given_by e ∙ cond-false _ (Some (content_of w)) None (ne_eqb (kind_of w) kind k)
-
-  pub given_lacking : at ws i ≡ None → given ws i kind ≡ None
-  given_lacking e = ap given_by e
-
   some_within : (o : Option ℕ) → at ws i ≡ o → is_some (given_by o) ≡ true → i < length ws
   some_within None e s = let z : ◌≡◌ {A = ℕ} 0 1 = cc in absurd (let y : ⊥ = omega arith in y)
   some_within (Some w) e s = there ws i w e
@@ -52,12 +43,20 @@ module _ (ws : List ℕ) (i : ℕ) where
   abbrev pub goes_on : ℕ → Option WordFault → Option WordFault
   goes_on n o = elim o [ Some f ↦ Some f | None ↦ numbers_fault ws (suc i) n ]
 
-  -- seen from a number, from a word that is none, and from a missing word
+  -- seen from a number, and from a word that is none
   pub numbers_more : (n w : ℕ) → at ws i ≡ Some w → kind_of w ≡ 3 → numbers_fault ws i (suc n) ≡ numbers_fault ws (suc i) n
   numbers_more n w e k = ap (λ o. goes_on n (number_by o)) e ∙ ap (goes_on n) (cond-true (eqb (kind_of w) 3) None (Some (wrong_kind i w)) (eq-eqb (kind_of w) 3 k))
 
   pub numbers_other : (n w : ℕ) → at ws i ≡ Some w → (kind_of w ≡ 3 → ⊥) → numbers_fault ws i (suc n) ≡ Some (wrong_kind i w)
   numbers_other n w e k = ap (λ o. goes_on n (number_by o)) e ∙ ap (goes_on n) (cond-false (eqb (kind_of w) 3) None (Some (wrong_kind i w)) (ne_eqb (kind_of w) 3 k))
 
-  pub numbers_lacking : (n : ℕ) → at ws i ≡ None → numbers_fault ws i (suc n) ≡ Some (Missing i)
-  numbers_lacking n e = ap (λ o. goes_on n (number_by o)) e
+  -- the same with the numbers counted by where they end
+  pub number_passed : (end w : ℕ) → i < end → at ws i ≡ Some w → kind_of w ≡ 3 → numbers_fault ws i (end - i) ≡ numbers_fault ws (i + 1) (end - (i + 1))
+  number_passed end w h e k =
+      let more : end - i ≡ suc (end - (i + 1)) = omega arith in
+      let next : suc i ≡ i + 1 = omega arith in
+      ap (numbers_fault ws i) more ∙ numbers_more (end - (i + 1)) w e k ∙ ap (λ j. numbers_fault ws j (end - (i + 1))) next
+
+  pub number_refused : (end w : ℕ) → i < end → at ws i ≡ Some w → (kind_of w ≡ 3 → ⊥) → numbers_fault ws i (end - i) ≡ Some (wrong_kind i w)
+  number_refused end w h e k =
+      let more : end - i ≡ suc (end - (i + 1)) = omega arith in ap (numbers_fault ws i) more ∙ numbers_other (end - (i + 1)) w e k

@@ -1,6 +1,5 @@
 -- A load into a table without rows.
-use Rattle.std.proofs.Common.{◌≡◌, ℕ, Bool, true, false, ◌&&◌, eqb, List, [], ◌∷◌, map, length, Some, None, Ok, Err, Result, sym, refl, ap, ◌∙◌, arith}
-use Rattle.std.proofs.lemmas.List.{length-map}
+use Rattle.std.proofs.Common.{◌≡◌, ℕ, true, false, eqb, List, [], ◌∷◌, length, Some, None, Ok, Err, Result, sym, refl, ap, ◌∙◌, arith}
 use Rattle.std.proofs.lemmas.Bool.{and_parts, eqb-true}
 use Rattle.rows.specs.Steps.{Does}
 use Rattle.rows.specs.Table.{Table, empty_table}
@@ -9,9 +8,6 @@ use Rattle.rows.proofs.Steps.{granted, refused}
 use Rattle.words.specs.declared.fault.LoadFault.{LoadFault}
 use Rattle.words.specs.declared.fault.LoadFault.TheVariants.{HasRows}
 use Rattle.words.specs.Loads.{rows_from, table_read, is_empty, fault_in, table_in, loading}
-
-pub same_emptiness : {X Y : Type 0} (row : X → Y) (xs : List X) (ys : List Y) → map row xs ≡ ys → eqb (length xs) 0 ≡ eqb (length ys) 0
-same_emptiness row xs ys e = ap (λ n. eqb n 0) (sym (length-map xs row) ∙ ap length e)
 
 no_items : {X : Type 0} (xs : List X) → length xs ≡ 0 → xs ≡ []
 no_items [] e = refl
@@ -41,10 +37,3 @@ module _ (ws : List ℕ) (t : Table) where
 
   pub has_rows : is_empty t ≡ false → Does (loading ws) t t (Err HasRows)
   has_rows e = refused (loading ws) t t HasRows (sym (check_failed (is_empty t) HasRows (fault_in (table_read ws)) e)) refl
-
--- a test of two parts, by its first
-pub second_decides : (r s x y : Bool) → r ≡ x → r ≡ true → s ≡ y → s ≡ (x && y)
-second_decides r s x y e f g = g ∙ ap (λ b. b && y) (sym f ∙ e)
-
-pub first_decides : (r x y : Bool) → r ≡ x → r ≡ false → r ≡ (x && y)
-first_decides r x y e f = f ∙ ap (λ b. b && y) (sym f ∙ e)

@@ -1,22 +1,9 @@
 -- Each kind has a number of its own, 1 to 7.
-use Rattle.std.proofs.Common.{◌≡◌, ℕ, ◌+◌, ◌<◌, true, false, cond, eqb, leb, Some, None, Option, MatchOption, sym, refl, ap, ◌∙◌, arith}
-use Rattle.std.proofs.lemmas.Bool.{and_parts, leb-true}
+use Rattle.std.proofs.Common.{◌≡◌, ℕ, true, false, cond, eqb, Some, None, Option, MatchOption, sym, refl, ap, ◌∙◌}
 use Rattle.rows.specs.Table.{within}
 use Rattle.words.specs.declared.word.Kind.{Kind}
 use Rattle.words.specs.declared.word.Kind.TheVariants.{Actor, Channel, Number, NotBefore, Pin, Ceiling, End}
-use Rattle.words.specs.contracts.word.Kind.{the_type}
-use denote.Enum.Declared.{tag_of}
 use Rattle.words.specs.Format.{kind_number}
-
--- what `kind as u32` gives
-pub kind_cast : (kind : Kind) → tag_of the_type kind + 1 ≡ kind_number kind
-kind_cast Actor = refl
-kind_cast Channel = refl
-kind_cast Number = refl
-kind_cast NotBefore = refl
-kind_cast Pin = refl
-kind_cast Ceiling = refl
-kind_cast End = refl
 
 pub kind_within : (kind : Kind) → within 1 7 (kind_number kind) ≡ true
 kind_within Actor = refl
@@ -26,10 +13,6 @@ kind_within NotBefore = refl
 kind_within Pin = refl
 kind_within Ceiling = refl
 kind_within End = refl
-
-pub kind_below : (kind : Kind) → kind_number kind < 8
-kind_below kind =
-    let h = leb-true (kind_number kind) 7 (and_parts (leb 1 (kind_number kind)) (leb (kind_number kind) 7) (kind_within kind)).1 in omega arith
 
 numbered : ℕ → Option Kind
 numbered n =

@@ -84,7 +84,7 @@ impl LoadFault {
 impl From<WordFault> for LoadFault {
     ghost from_gives = { λ fault f. f ≡ Word fault };
 
-    fn from(fault: WordFault) -> LoadFault {
-        LoadFault::Word(fault)
+    fn from(fault: WordFault) -> Self {
+        Self::Word(fault)
     }
 }

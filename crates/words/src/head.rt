@@ -19,6 +19,7 @@ pub(crate) struct Head<'a> {
 }
 
 impl<'a> Head<'a> {
+    // The record of an actor. None may stand after a channel.
     pub(crate) fn actor(self, after_channel: bool) -> Result<Record<'a>, WordFault>
         ensures { ReadsPart result (actor_at after_channel self.entry.words.now self.entry.place self.entry.content) }
     {
@@ -30,6 +31,7 @@ impl<'a> Head<'a> {
         Ok(Record::Actor(&self.words[self.place..end.index]))
     }
 
+    // The record of a channel.
     pub(crate) fn channel(self) -> Result<Record<'a>, WordFault>
         ensures { ReadsPart result (channel_at self.entry.words.now self.entry.place self.entry.content) }
     {
@@ -42,6 +44,7 @@ impl<'a> Head<'a> {
         Ok(Record::Channel(&self.words[self.place..end.index]))
     }
 
+    // The end of the table.
     pub(crate) fn table_end(self) -> Result<Record<'a>, WordFault>
         ensures { ReadsPart result (end_at self.entry.words.now self.entry.place self.entry.content) }
     {

@@ -57,6 +57,7 @@ fn add_records(rows: &mut Rows, words: &[u32]) -> Result<(), LoadFault>
             Record::End(_) => return Ok(()),
         };
         added.map_err(|fault| LoadFault::Row { head, fault })?;
+        // A record is as long as its words say, which is known once it is read.
         head += part.len();
     }
 }

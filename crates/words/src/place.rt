@@ -19,7 +19,11 @@ impl<'a> Place<'a> {
         ensures { result ≡ given self.entry.words.now self.entry.index (kind_number kind) }
     {
         let word = *self.words.get(self.index)?;
-        (Kind::of(word) == Some(kind)).then(|| content_of(word))
+        if Kind::of(word) == Some(kind) {
+            Some(content_of(word))
+        } else {
+            None
+        }
     }
 
     // The place after a word of this kind, if it stands here.
@@ -28,12 +32,12 @@ impl<'a> Place<'a> {
         ensures value { result.index ≡ past self.entry.words.now self.entry.index (kind_number kind) }
         ensures on { self.entry.index ≤ result.index }
     {
-        if self.given(kind).is_none() {
-            return self;
-        }
-        Place {
-            words: self.words,
-            index: self.index + 1,
+        match self.given(kind) {
+            Some(_) => Place {
+                words: self.words,
+                index: self.index + 1,
+            },
+            None => self,
         }
     }
 
