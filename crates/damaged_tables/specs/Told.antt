@@ -1,5 +1,5 @@
--- The answer to a load as two numbers.
-use Rattle.std.specs.Prelude.{ℕ, Ok, Err, Result}
+-- The answer to a load, as two numbers and as it is printed.
+use Rattle.std.specs.Prelude.{ℕ, List, ◌++◌, Ok, Err, Result, codes, decimal}
 use Rattle.rows.specs.Table.{Table}
 use Rattle.words.specs.declared.fault.LoadFault.{LoadFault}
 use Rattle.words.specs.Faults.{shown_load}
@@ -8,3 +8,11 @@ use Rattle.words.specs.Faults.{shown_load}
 abbrev pub told_of : Result Table LoadFault → ℕ → ℕ × ℕ
 told_of (Ok t) count = (0, count)
 told_of (Err f) count = shown_load f
+
+abbrev pub pair_text : ℕ × ℕ → List ℕ
+pair_text p = decimal p.0 ++ (codes "@" ++ decimal p.1)
+
+-- the number of words, or a number and a place
+abbrev pub answer_text : Result ℕ (ℕ × ℕ) → List ℕ
+answer_text (Ok count) = pair_text (0, count)
+answer_text (Err p) = pair_text p

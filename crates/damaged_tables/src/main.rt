@@ -3,14 +3,20 @@
 
 #![tactic(auto)]
 
-ghost use Rattle.std.specs.Prelude.{◌≡◌, length};
-ghost use Rattle.words.specs.Loads.{table_read};
-ghost use Rattle.damaged_tables.specs.Told.{told_of};
+ghost use Rattle.std.specs.Prelude.{◌≡◌, ◌++◌, ◌∷◌, Some, length, OnOk, string_bytes};
+ghost use Rattle.rows.specs.Steps.{Does};
+ghost use Rattle.rows.specs.Table.{empty_table};
+ghost use Rattle.table.specs.Tables.{table_of};
+ghost use Rattle.words.specs.Loads.{loading, table_read};
+ghost use Rattle.damaged_tables.specs.Told.{told_of, answer_text, pair_text};
 
 use std::alloc::{AllocError, Global};
+use std::fmt;
 use table::storage::Rows;
 use word_save::save::{save, saved};
+use words::fault::LoadFault;
 use words::load::load;
+use words::word::{CONTENTS, Kind};
 
 // Actors and channels with and without each part that they may have.
 const TABLE: [u32; 30] = [
@@ -46,183 +52,216 @@ const TABLE: [u32; 30] = [
     0x7_000001d,
 ];
 
+// One word more than the table takes.
+const ROOM: usize = TABLE.len() + 1;
+
 // The answer to a load of these words into a table without rows.
-fn told(rows: &mut Rows, words: &[u32]) -> (u32, usize)
-    ensures { result ≡ told_of (table_read words.now) (length words.now) }
+fn told(rows: &mut Rows, words: &[u32]) -> Result<usize, LoadFault>
+    ensures { Does (loading words.now) empty_table (table_of rows.new) result }
 {
     rows.clear();
-    match load(rows, words) {
-        Ok(count) => (0, count),
-        Err(fault) => (fault.number(), fault.place()),
+    load(rows, words)
+}
+
+// The number of words that are loaded or saved, or the number and the place of the refusal.
+#[derive(Clone, Copy)]
+struct Answer(Result<usize, (u32, usize)>);
+
+impl fmt::Display for Answer {
+    ghost output = { λ answer. Some (answer_text answer.0) };
+
+    fn fmt<W: fmt::Write>(&self, f: &mut fmt::Formatter<W>) -> fmt::Result {
+        let (number, place) = match self.0 {
+            Ok(count) => (0, count),
+            Err(refusal) => refusal,
+        };
+        write!(f, "{number}@{place}")
     }
 }
 
-// Adds the answer to a line.
-fn show(out: &mut String, rows: &mut Rows, words: &[u32]) -> Result<(), AllocError> {
-    let (number, place) = told(rows, words);
-    match write!(out, " {number}@{place}") {
-        Ok(()) => Ok(()),
-        Err(_) => Err(AllocError),
-    }
+// The rows that tables are loaded into, and the text of the answers.
+#[derive(Drop)]
+struct Trials {
+    heap: Global,
+    rows: Rows,
+    text: String,
 }
 
-// The table cut short at each word.
-fn cut_short(out: &mut String, rows: &mut Rows) -> Result<(), AllocError> {
-    out.push_str("cut short")?;
-    for n in 0..31 {
-        show(out, rows, &TABLE[0..n])?;
+impl Trials {
+    fn new(heap: Global) -> Result<Trials, AllocError> {
+        let rows = Rows::new(heap)?;
+        let text = String::new(heap);
+        Ok(Trials { heap, rows, text })
     }
-    out.push_str("\n")
-}
 
-// Each kind in each place.
-fn other_kinds(out: &mut String, rows: &mut Rows) -> Result<(), AllocError> {
-    for place in 0..30 {
-        out.push_str("kinds")?;
-        for kind in 0..16 {
-            let mut words = TABLE;
-            words[place] = kind * 0x1000_0000 + TABLE[place] % 0x1000_0000;
-            show(out, rows, &words)?;
-        }
-        out.push_str("\n")?;
+    // Adds the answer to a load of these words to a line.
+    fn show(&mut self, words: &[u32]) -> Result<(), AllocError>
+        ensures { OnOk result
+            (string_bytes self.new.text ≡ string_bytes self.old.text ++ 32 ∷ pair_text (told_of (table_read words.now) (length words.now))) }
+    {
+        let answer = Answer(told(&mut self.rows, words).map_err(|fault| (
+            fault.number(),
+            fault.place(),
+        )));
+        write!(self.text, " {answer}")
     }
-    Ok(())
-}
 
-// Each bit of each content turned.
-fn turned_bits(out: &mut String, rows: &mut Rows) -> Result<(), AllocError> {
-    for place in 0..30 {
-        out.push_str("bits")?;
-        let mut bit: u32 = 1;
-        for _ in 0..28 {
-            let mut words = TABLE;
-            words[place] = TABLE[place] ^ bit;
-            show(out, rows, &words)?;
-            bit = bit.wrapping_mul(2);
-        }
-        out.push_str("\n")?;
-    }
-    Ok(())
-}
-
-// Each word one lower, and one higher.
-fn off_by_one(out: &mut String, rows: &mut Rows) -> Result<(), AllocError> {
-    out.push_str("off by one")?;
-    for place in 0..30 {
+    // The same of the table with this damage.
+    fn show_damaged<F: FnOnce(&mut [u32; 30])>(&mut self, damage: F) -> Result<(), AllocError>
+        requires { F.IsAlwaysCallable damage }
+    {
         let mut words = TABLE;
-        words[place] = TABLE[place].wrapping_sub(1);
-        show(out, rows, &words)?;
-        words[place] = TABLE[place].wrapping_add(1);
-        show(out, rows, &words)?;
+        damage(&mut words);
+        self.show(&words)
     }
-    out.push_str("\n")
-}
 
-// Each word exchanged with the next.
-fn exchanged(out: &mut String, rows: &mut Rows) -> Result<(), AllocError> {
-    out.push_str("exchanged")?;
-    for place in 0..29 {
-        let mut words = TABLE;
-        words[place] = TABLE[place + 1];
-        words[place + 1] = TABLE[place];
-        show(out, rows, &words)?;
+    // The table cut short at each word.
+    fn cut_short(&mut self) -> Result<(), AllocError> {
+        self.text.push_str("cut short")?;
+        for count in 0..=TABLE.len() {
+            self.show(&TABLE[..count])?;
+        }
+        self.text.push_str("\n")
     }
-    out.push_str("\n")
-}
 
-// Each word left out, and each word twice.
-fn left_out_and_doubled(heap: Global, out: &mut String, rows: &mut Rows) -> Result<(), AllocError> {
-    out.push_str("left out and doubled")?;
-    for place in 0..30 {
-        let mut words = Vec::new(heap);
-        words.extend_from_slice(&TABLE[0..place])?;
-        words.extend_from_slice(&TABLE[place + 1..30])?;
-        show(out, rows, words.as_slice())?;
-        words.clear();
-        words.extend_from_slice(&TABLE[0..place + 1])?;
-        words.extend_from_slice(&TABLE[place..30])?;
-        show(out, rows, words.as_slice())?;
+    // Each kind in each place.
+    fn other_kinds(&mut self) -> Result<(), AllocError> {
+        for place in 0..TABLE.len() {
+            self.text.push_str("kinds")?;
+            for kind in 0..16 {
+                self.show_damaged(|words| words[place] = kind * CONTENTS
+                    + words[place] % CONTENTS)?;
+            }
+            self.text.push_str("\n")?;
+        }
+        Ok(())
     }
-    out.push_str("\n")
+
+    // Each bit of each content turned.
+    fn turned_bits(&mut self) -> Result<(), AllocError> {
+        for place in 0..TABLE.len() {
+            self.text.push_str("bits")?;
+            for bit in 0..28u32 {
+                self.show_damaged(|words| words[place] ^= 1 << bit)?;
+            }
+            self.text.push_str("\n")?;
+        }
+        Ok(())
+    }
+
+    // Each word one lower, and one higher.
+    fn off_by_one(&mut self) -> Result<(), AllocError> {
+        self.text.push_str("off by one")?;
+        for place in 0..TABLE.len() {
+            self.show_damaged(|words| words[place] = words[place].wrapping_sub(1))?;
+            self.show_damaged(|words| words[place] = words[place].wrapping_add(1))?;
+        }
+        self.text.push_str("\n")
+    }
+
+    // Each word exchanged with the next.
+    fn exchanged(&mut self) -> Result<(), AllocError> {
+        self.text.push_str("exchanged")?;
+        for next in 1..TABLE.len() {
+            self.show_damaged(|words| words.swap(next - 1, next))?;
+        }
+        self.text.push_str("\n")
+    }
+
+    // Each word left out, and each word twice.
+    fn left_out_and_doubled(&mut self) -> Result<(), AllocError> {
+        self.text.push_str("left out and doubled")?;
+        for (place, word) in TABLE.iter().enumerate() {
+            let mut words = TABLE.to_vec(self.heap)?;
+            words.remove(place);
+            self.show(&words)?;
+            let mut words = TABLE.to_vec(self.heap)?;
+            words.insert(place, *word)?;
+            self.show(&words)?;
+        }
+        self.text.push_str("\n")
+    }
+
+    // As many rows as there may be, and one more; and each table that is loaded saved again.
+    fn many_rows(&mut self) -> Result<(), AllocError> {
+        let sizes = [
+            (64, 0, 1),
+            (65, 0, 1),
+            (64, 128, 1),
+            (64, 129, 1),
+            (64, 128, 8),
+        ];
+        self.text.push_str("many rows")?;
+        for (actors, channels, phases) in sizes {
+            let words = regular(self.heap, actors, channels, phases)?;
+            self.show(&words)?;
+            let again = saved(self.heap, &self.rows)?;
+            self.text
+                .push_str(if again == words { " same" } else { " other" })?;
+        }
+        self.text.push_str("\n")
+    }
+
+    // The table saved into one word too few, into as many as it takes, and into one more, which is left alone.
+    fn into_space(&mut self) -> Result<(), AllocError> {
+        self.text.push_str("into space")?;
+        self.show(&TABLE)?;
+        for space in TABLE.len() - 1..=TABLE.len() + 1 {
+            let mut words = [9; ROOM];
+            let answer = Answer(save(&self.rows, &mut words[..space]).map_err(|fault| (
+                fault.number(),
+                fault.place(),
+            )));
+            let (first, last) = (words[0], words[TABLE.len()]);
+            write!(self.text, " {answer} first {first} last {last}")?;
+        }
+        self.text.push_str("\n")
+    }
 }
 
 // A table of so many actors and channels, each of so many phases, with every part that a row may have where it has eight.
-fn regular(heap: Global, actors: u32, channels: u32, phases: u32) -> Result<Vec<u32>, AllocError> {
+fn regular(heap: Global, actors: u32, channels: u32, phases: u8) -> Result<Vec<u32>, AllocError> {
+    let phases = u32::from(phases);
     let mut words = Vec::new(heap);
     for _ in 0..actors {
-        words.push(0x1000_0000 | phases)?;
+        words.push(word(Kind::Actor, phases))?;
         for _ in 0..phases {
-            words.push(0x3000_0001)?;
+            words.push(word(Kind::Number, 1))?;
         }
         if phases == 8 {
-            words.push(0x4000_0000)?;
-            words.push(0x5000_0000)?;
+            words.push(word(Kind::NotBefore, 0))?;
+            words.push(word(Kind::Pin, 0))?;
         }
     }
     for _ in 0..channels {
-        words.push(0x2000_0100 | phases.wrapping_mul(0x11_0000))?;
-        for _ in 0..phases {
-            words.push(0x3000_0001)?;
-            words.push(0x3000_0001)?;
+        words.push(word(Kind::Channel, 0x100 | phases * 0x11_0000))?;
+        for _ in 0..2 * phases {
+            words.push(word(Kind::Number, 1))?;
         }
         if phases == 8 {
-            words.push(0x6000_0001)?;
+            words.push(word(Kind::Ceiling, 1))?;
         }
     }
-    let count = words.len();
-    words.push(0x7000_0000 | (count % 0x1000_0000) as u32)?;
+    let count = words.len() % CONTENTS as usize;
+    words.push(word(Kind::End, count as u32))?;
     Ok(words)
 }
 
-// As many rows as there may be, and one more; and each table that is loaded saved again.
-fn many_rows(heap: Global, out: &mut String, rows: &mut Rows) -> Result<(), AllocError> {
-    let sizes = [
-        (64, 0, 1),
-        (65, 0, 1),
-        (64, 128, 1),
-        (64, 129, 1),
-        (64, 128, 8),
-    ];
-    out.push_str("many rows")?;
-    for (actors, channels, phases) in sizes {
-        let words = regular(heap, actors, channels, phases)?;
-        show(out, rows, words.as_slice())?;
-        let again = saved(heap, rows)?;
-        out.push_str(if again == words { " same" } else { " other" })?;
-    }
-    out.push_str("\n")
-}
-
-// The table saved into one word too few, into as many as it takes, and into one more, which is left alone.
-fn into_space(out: &mut String, rows: &mut Rows) -> Result<(), AllocError> {
-    out.push_str("into space")?;
-    show(out, rows, &TABLE)?;
-    for space in 29..32 {
-        let mut words = [9; 31];
-        let (number, count) = match save(rows, &mut words[0..space]) {
-            Ok(count) => (0, count),
-            Err(fault) => (fault.number(), fault.place()),
-        };
-        let (first, last) = (words[0], words[30]);
-        if write!(out, " {number}@{count} first {first} last {last}").is_err() {
-            return Err(AllocError);
-        }
-    }
-    out.push_str("\n")
+// A word of this kind, with the bits of this content.
+fn word(kind: Kind, content: u32) -> u32 {
+    kind as u32 * CONTENTS | content
 }
 
 fn main(rt: HostRuntime) -> anyhow::Result<()> {
-    let heap = rt.alloc();
-    let mut rows = Rows::new(heap)?;
-    let mut out = String::new(heap);
-    cut_short(&mut out, &mut rows)?;
-    other_kinds(&mut out, &mut rows)?;
-    turned_bits(&mut out, &mut rows)?;
-    off_by_one(&mut out, &mut rows)?;
-    exchanged(&mut out, &mut rows)?;
-    left_out_and_doubled(heap, &mut out, &mut rows)?;
-    many_rows(heap, &mut out, &mut rows)?;
-    into_space(&mut out, &mut rows)?;
-    print!(rt; "{out}")?;
+    let mut trials = Trials::new(rt.alloc())?;
+    trials.cut_short()?;
+    trials.other_kinds()?;
+    trials.turned_bits()?;
+    trials.off_by_one()?;
+    trials.exchanged()?;
+    trials.left_out_and_doubled()?;
+    trials.many_rows()?;
+    trials.into_space()?;
+    print!(rt; "{}", trials.text)?;
     Ok(())
 }

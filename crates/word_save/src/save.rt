@@ -1,15 +1,17 @@
 // Rows saved as a table of words.
-ghost use Rattle.std.specs.Prelude.{◌≡◌, ℕ, ◌+◌, ◌<◌, ◌≤◌, true, List, [], ◌∷◌, map, length, IfOk, slice_index_or};
+ghost use Rattle.std.specs.Prelude.{◌≡◌, ℕ, ◌+◌, ◌<◌, ◌≤◌, true, List, ◌++◌, map, length, IfOk, slice_index_or};
+ghost use Rattle.arrayvec.specs.ArrayVec.{array_vec_len};
 ghost use Rattle.std.specs.List.{flat_map};
 ghost use Rattle.rows.specs.Steps.{Does};
 ghost use Rattle.rows.specs.Table.{every};
 ghost use Rattle.rows.specs.Values.{actor_row, channel_row};
 ghost use Rattle.table.specs.Tables.{table_of};
 ghost use Rattle.words.specs.Fitting.{small, small_if, ActorFits, ChannelFits};
-ghost use Rattle.words.specs.Format.{word_of, option_words, ends_content, actor_words, channel_words, table_words};
-ghost use Rattle.word_save.specs.Saves.{written, saving};
+ghost use Rattle.words.specs.Format.{kind_number, word_of, option_words, ends_content, actor_words, channel_words, table_words};
+ghost use Rattle.word_save.specs.Saves.{saving};
 
 use crate::fault::SaveFault;
+use arrayvec::ArrayVec;
 use rows::row::{Actor, Channel};
 use std::alloc::{AllocError, Global};
 use table::storage::Rows;
@@ -30,9 +32,7 @@ pub fn save(rows: &Rows, out: &mut [u32]) -> Result<usize, SaveFault>
     if out.len() < size {
         return Err(SaveFault::SpaceShort);
     }
-    let channels_from = write_rows(rows.actors(), out, 0);
-    let end = write_rows(rows.channels(), out, channels_from);
-    let _ = write_word(out, end, word_of(Kind::End as u32, end as u32));
+    write_table(rows, &mut out[..size]);
     Ok(size)
 }
 
@@ -42,11 +42,26 @@ pub fn saved(heap: Global, rows: &Rows) -> Result<Vec<u32>, AllocError>
 {
     let mut words = Vec::new(heap);
     words.resize(size(rows), 0)?;
-    match save(rows, words.as_mut_slice()) {
-        Ok(_) => Ok(words),
-        Err(_) => unreachable(),
-    }
+    write_table(rows, &mut words);
+    Ok(words)
 }
+
+// Writes the rows as a table of words over as many words.
+fn write_table(rows: &Rows, out: &mut [u32])
+    requires { length out.old ≡ length (table_words (table_of rows.now)) }
+    ensures { out.new ≡ table_words (table_of rows.now) }
+{
+    let actors = rows.actors();
+    let channels = rows.channels();
+    let (actor_words, rest) = out.split_at_mut(size_of(actors));
+    let (channel_words, end) = rest.split_at_mut(size_of(channels));
+    write_rows(actors, actor_words);
+    write_rows(channels, channel_words);
+    end[0] = word_of(Kind::End, (actor_words.len() + channel_words.len()) as u32);
+}
+
+// The words of a record: a head, the numbers of at most two lists of phases, and an optional number.
+type Words = ArrayVec<u32, 18>;
 
 // A row that is written as the words of a record.
 trait Encode {
@@ -58,11 +73,10 @@ trait Encode {
     fn size(&self) -> usize
         ensures { result ≡ length (words self.now) };
 
-    // Writes the words from this place on, and answers the place after them.
-    fn write(&self, out: &mut [u32], place: usize) -> usize
-        requires { (fits self.now) × (place + length (words self.now) ≤ length out.old) }
-        ensures after { result ≡ place + length (words self.now) }
-        ensures out { out.new ≡ written place (words self.now) out.old };
+    // The words of the record.
+    fn encode(&self) -> Words
+        requires { fits self.now }
+        ensures { result.items ≡ words self.now };
 }
 
 impl Encode for Actor {
@@ -76,12 +90,14 @@ impl Encode for Actor {
             + option_size(self.placement.pin())
     }
 
-    fn write(&self, out: &mut [u32], place: usize) -> usize {
+    fn encode(&self) -> Words {
         let times = self.times.as_slice();
-        let times_from = write_word(out, place, word_of(Kind::Actor as u32, times.len() as u32));
-        let times_end = write_numbers(out, times_from, times);
-        let pin_from = write_option(out, times_end, Kind::NotBefore as u32, self.not_before);
-        write_option(out, pin_from, Kind::Pin as u32, self.placement.pin())
+        let mut words = ArrayVec::new();
+        words.push(word_of(Kind::Actor, times.len() as u32));
+        push_numbers(&mut words, times);
+        push_option(&mut words, Kind::NotBefore, self.not_before);
+        push_option(&mut words, Kind::Pin, self.placement.pin());
+        words
     }
 }
 
@@ -94,24 +110,25 @@ impl Encode for Channel {
         1 + self.writes.as_slice().len() + self.reads.as_slice().len() + option_size(self.ceiling)
     }
 
-    fn write(&self, out: &mut [u32], place: usize) -> usize {
-        let writes = self.writes.as_slice();
-        let reads = self.reads.as_slice();
-        let ends = ends_content(self.writer, self.reader, writes.len(), reads.len());
-        let writes_from = write_word(out, place, word_of(Kind::Channel as u32, ends));
-        let reads_from = write_numbers(out, writes_from, writes);
-        let ceiling_from = write_numbers(out, reads_from, reads);
-        write_option(out, ceiling_from, Kind::Ceiling as u32, self.ceiling)
+    fn encode(&self) -> Words {
+        let mut words = ArrayVec::new();
+        words.push(word_of(Kind::Channel, ends_content(self)));
+        push_numbers(&mut words, self.writes.as_slice());
+        push_numbers(&mut words, self.reads.as_slice());
+        push_option(&mut words, Kind::Ceiling, self.ceiling);
+        words
     }
 }
 
 // The content of a channel's head.
-fn ends_content(writer: usize, reader: usize, writes: usize, reads: usize) -> u32
-    requires { (writer < 256) × ((reader < 256) × ((writes < 16) × (reads < 16))) }
-    ensures value { result ≡ ends_content writer reader writes reads }
+fn ends_content(channel: &Channel) -> u32
+    requires { ChannelFits (channel_row channel.now) }
+    ensures value { let c = channel_row channel.now in result ≡ ends_content c.writer c.reader (length c.writes) (length c.reads) }
     ensures small { result < 268435456 }
 {
-    (writer + 0x100 * reader + 0x1_0000 * writes + 0x10_0000 * reads) as u32
+    let writes = channel.writes.as_slice().len();
+    let reads = channel.reads.as_slice().len();
+    (channel.writer + 0x100 * channel.reader + 0x1_0000 * writes + 0x10_0000 * reads) as u32
 }
 
 // How many words the rows have.
@@ -119,74 +136,56 @@ fn size_of<T: Encode>(rows: &[T]) -> usize
     requires { length (flat_map T.Encode.words rows.now) < 268435456 }
     ensures { result ≡ length (flat_map T.Encode.words rows.now) }
 {
-    let mut size = 0;
-    for row in rows {
-        size += row.size();
-    }
-    size
+    rows.iter().map(|row| row.size()).sum()
 }
 
-// Writes the words of the rows from this place on, and answers the place after them.
-fn write_rows<T: Encode>(rows: &[T], out: &mut [u32], place: usize) -> usize
-    requires { (((i : ℕ) (d : T) → i < length rows.now → T.Encode.fits (slice_index_or rows.now i d))) × (place + length (flat_map T.Encode.words rows.now) ≤ length out.old) }
-    ensures after { result ≡ place + length (flat_map T.Encode.words rows.now) }
-    ensures out { out.new ≡ written place (flat_map T.Encode.words rows.now) out.old }
+// Writes the words of the rows over as many words.
+fn write_rows<T: Encode>(rows: &[T], out: &mut [u32])
+    requires fit { (i : ℕ) (d : T) → i < length rows.now → T.Encode.fits (slice_index_or rows.now i d) }
+    requires room { length out.old ≡ length (flat_map T.Encode.words rows.now) }
+    ensures { out.new ≡ flat_map T.Encode.words rows.now }
 {
-    let mut next = place;
+    // By place: of a slice that moves along, a proof knows only the part that is left.
+    let mut place = 0;
     for row in rows {
-        next = row.write(out, next);
+        let words = row.encode();
+        let end = place + words.len();
+        out[place..end].copy_from_slice(&words);
+        place = end;
     }
-    next
 }
 
 fn option_size(number: Option<u32>) -> usize
     ensures size { (kind : ℕ) → result ≡ length (option_words kind number) }
     ensures few { result ≤ 1 }
 {
-    match number {
-        Some(_) => 1,
-        None => 0,
+    usize::from(number.is_some())
+}
+
+// Adds a word, where there is a number for it.
+fn push_option(words: &mut Words, kind: Kind, number: Option<u32>)
+    requires { (small_if number ≡ true) × (array_vec_len words.old < 18) }
+    ensures { words.new.items ≡ words.old.items ++ option_words (kind_number kind) number }
+{
+    if let Some(n) = number {
+        words.push(word_of(kind, n));
     }
 }
 
-// Writes a word, where there is a number for it.
-fn write_option(out: &mut [u32], place: usize, kind: u32, number: Option<u32>) -> usize
-    requires { (kind < 16) × ((small_if number ≡ true) × (place + length (option_words kind number) ≤ length out.old)) }
-    ensures after { result ≡ place + length (option_words kind number) }
-    ensures out { out.new ≡ written place (option_words kind number) out.old }
+// Adds a word for each number.
+fn push_numbers(words: &mut Words, numbers: &[u32])
+    requires { (every small numbers.now ≡ true) × (array_vec_len words.old + length numbers.now ≤ 18) }
+    ensures { words.new.items ≡ words.old.items ++ map (word_of 3) numbers.now }
 {
-    match number {
-        Some(n) => write_word(out, place, word_of(kind, n)),
-        None => place,
-    }
-}
-
-// Writes a word for each number.
-fn write_numbers(out: &mut [u32], place: usize, numbers: &[u32]) -> usize
-    requires { (every small numbers.now ≡ true) × (place + length numbers.now ≤ length out.old) }
-    ensures after { result ≡ place + length numbers.now }
-    ensures out { out.new ≡ written place (map (word_of 3) numbers.now) out.old }
-{
-    let mut next = place;
     for n in numbers {
-        next = write_word(out, next, word_of(Kind::Number as u32, *n));
+        words.push(word_of(Kind::Number, *n));
     }
-    next
-}
-
-fn write_word(out: &mut [u32], place: usize, word: u32) -> usize
-    requires { place < length out.old }
-    ensures after { result ≡ place + 1 }
-    ensures out { out.new ≡ written place (word ∷ []) out.old }
-{
-    out[place] = word;
-    place + 1
 }
 
 // A word of this kind and content.
-fn word_of(kind: u32, content: u32) -> u32
-    requires { (kind < 16) × (content < 268435456) }
-    ensures { result ≡ word_of kind content }
+fn word_of(kind: Kind, content: u32) -> u32
+    requires { content < 268435456 }
+    ensures { result ≡ word_of (kind_number kind) content }
 {
-    kind * CONTENTS + content
+    kind as u32 * CONTENTS + content
 }

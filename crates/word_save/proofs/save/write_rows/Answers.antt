@@ -1,47 +1,44 @@
-use Rattle.std.proofs.Common.{◌+◌, length, take, sym, ap, ◌∙◌, subst, arith, length-append}
+use Rattle.std.proofs.Common.{◌≡◌, ℕ, ◌+◌, ◌-◌, ◌<◌, List, [], ◌∷◌, ◌++◌, length, take, get_or, sym, ap, ◌∙◌, arith, append-nil, length-append}
 use Rattle.std.specs.List.{flat_map}
-use Rattle.std.proofs.lemmas.List.{take_all}
-use Rattle.word_save.specs.Saves.{written}
-use Rattle.word_save.proofs.Written.{written_none, length_written, then_written, joined_next, joined_room}
+use Rattle.std.proofs.lemmas.List.{take_all, take_more}
+use Rattle.std.proofs.lemmas.List.Concat.{flat_map-append}
+use Rattle.std.proofs.lemmas.List.Folds.{length-flat_map-take}
+use Rattle.std.proofs.lemmas.Slice.{take-put_mid}
 use Rattle.word_save.proofs.save.write_rows.Goals as goal
 
-pub loop-row-init : goal.loop-row-init
-loop-row-init g c = (written_none c.args.place c.args.out.now, omega arith)
+-- the words of one more row
+one_more : {X : Type 0} (words : X → List ℕ) (rows : List X) (i : ℕ) (row : X) → i < length rows → row ≡ get_or rows i row
+    → flat_map words (take (i + 1) rows) ≡ flat_map words (take i rows) ++ words row
+one_more words rows i row h e =
+    ap (flat_map words) (take_more rows i row h ∙ ap (λ r. take i rows ++ r ∷ []) (sym e))
+    ∙ flat_map-append words (take i rows) (row ∷ [])
+    ∙ ap (λ l. flat_map words (take i rows) ++ l) (append-nil (words row))
 
-pub write-next-requires : goal.write-next-requires
-write-next-requires g c =
+pub slice_bounds-copy_from_slice-end : goal.slice_bounds-copy_from_slice-end
+slice_bounds-copy_from_slice-end g c =
     let words = g.T.Encode.words in
-    let rows = c.args.rows.now in
-    let i = c.loop-row.row-index in
-    let room = joined_room words rows i c.row-item.result c.loop-row-test.true c.row-item.is in
-    let all = c.requires.1 in
-    let next = c.loop-row.invariant.1 in
-    let same = ap length c.loop-row.invariant.0 ∙ length_written c.args.place (flat_map words (take i rows)) c.args.out.now (omega arith) in
-    (subst g.T.Encode.fits (sym c.row-item.is) (c.requires.0 i c.row-item.result c.loop-row-test.true), omega arith)
+    let room = length-flat_map-take words c.args.rows.now c.loop-row.row-index c.row-item.result c.loop-row-test.true in
+    let row = ap (λ r. length (words r)) c.row-item.is in
+    let size = ap length c.encode-words.ensures in
+    omega arith
 
 pub loop-row-preserved : goal.loop-row-preserved
 loop-row-preserved g c =
     let words = g.T.Encode.words in
     let rows = c.args.rows.now in
-    let i = c.loop-row.row-index in
-    let row = c.row-item.result in
-    let room = joined_room words rows i row c.loop-row-test.true c.row-item.is in
-    let all = c.requires.1 in
-    let next = c.loop-row.invariant.1 in
-    let more = joined_next words rows i row c.loop-row-test.true c.row-item.is in
-    let size = ap length more in
-    let parts = length-append (flat_map words (take i rows)) (words row) in
-    let after = c.write-next.ensures.after in (
-      then_written c.args.place c.loop-row.next (flat_map words (take i rows)) (words row) c.args.out.now c.loop-row.out _ (omega arith) c.loop-row.invariant.0 next
-          c.write-next.ensures.out
-          ∙ ap (λ l. written c.args.place l c.args.out.now) (sym more),
+    let room = length-flat_map-take words rows c.loop-row.row-index c.row-item.result c.loop-row-test.true in
+    let row = ap (λ r. length (words r)) c.row-item.is in
+    let size = ap length c.encode-words.ensures in
+    let more = one_more words rows c.loop-row.row-index c.row-item.result c.loop-row-test.true c.row-item.is in
+    let parts = ap length more ∙ length-append (flat_map words (take c.loop-row.row-index rows)) (words c.row-item.result) in
+    let written = c.copy_from_slice.ensures.after ∙ c.deref.ensures.0 ∙ c.encode-words.ensures in (
       omega arith,
+      take-put_mid c.loop-row.place (c.loop-row.place + c.len.result - c.loop-row.place) c.loop-row.out c.copy_from_slice.new.self (c.loop-row.place + c.len.result) (omega arith) (omega arith)
+          ∙ ap (λ l. l ++ c.copy_from_slice.new.self) c.loop-row.invariant.1 ∙ ap (λ l. flat_map words (take c.loop-row.row-index rows) ++ l) written ∙ sym more,
     )
 
 pub returns : goal.returns
 returns g c =
     let all = take_all c.loop-row.row-index c.args.rows.now c.loop-row-test.false in
-    record {
-      after = c.loop-row.invariant.1 ∙ ap (λ l. c.args.place + length (flat_map g.T.Encode.words l)) all;
-      out = c.loop-row.invariant.0 ∙ ap (λ l. written c.args.place (flat_map g.T.Encode.words l) c.args.out.now) all;
-    }
+    let size = ap (λ l. length (flat_map g.T.Encode.words l)) all in
+    sym (take_all c.loop-row.place c.loop-row.out (omega arith)) ∙ c.loop-row.invariant.1 ∙ ap (flat_map g.T.Encode.words) all
