@@ -4,7 +4,7 @@ use Rattle.std.specs.List.{between}
 use Rattle.std.proofs.lemmas.List.{take-take, drop-take}
 use Rattle.std.proofs.lemmas.Bool.{and_from, not_from_false, lt-ltb}
 use Rattle.rows.specs.Steps.{answer}
-use Rattle.rows.specs.Table.{at}
+use Rattle.std.specs.List.{slice_get}
 use Rattle.words.specs.Checks.{check}
 use Rattle.words.proofs.Checks.{check_from}
 use Rattle.words.specs.declared.fault.WordFault.{WordFault}
@@ -15,7 +15,7 @@ use Rattle.words.proofs.Found.{there, number_by, goes_on, given_by}
 use Rattle.words.proofs.Headed.{headed_by_lem}
 use Rattle.words.proofs.Whole.{ActorRead, ChannelRead, numbers_within, past_within, between_length}
 
-at_take : (xs : List ℕ) (n i : ℕ) → i < n → at (take n xs) i ≡ at xs i
+at_take : (xs : List ℕ) (n i : ℕ) → i < n → slice_get (take n xs) i ≡ slice_get xs i
 at_take xs zero i l = absurd (let z : ⊥ = omega arith in z)
 at_take [] (suc n) i l = refl
 at_take (x ∷ xs) (suc n) zero l = refl
@@ -31,8 +31,8 @@ accepted : (o : Option WordFault) (make : List ℕ → Part) (p q : List ℕ) �
 accepted o make p q e f = λ i. answer (e i) (make (f i))
 
 module _ (n : ℕ) (ws vs : List ℕ) (alike : take n ws ≡ take n vs) where
-  pub at_alike : (i : ℕ) → i < n → at ws i ≡ at vs i
-  at_alike i l = sym (at_take ws n i l) ∙ ap (λ xs. at xs i) alike ∙ at_take vs n i l
+  pub at_alike : (i : ℕ) → i < n → slice_get ws i ≡ slice_get vs i
+  at_alike i l = sym (at_take ws n i l) ∙ ap (λ xs. slice_get xs i) alike ∙ at_take vs n i l
 
   take_alike : (i : ℕ) → i ≤ n → take i ws ≡ take i vs
   take_alike i l = sym (take-take i n ws l) ∙ ap (take i) alike ∙ take-take i n vs l
@@ -48,7 +48,7 @@ module _ (n : ℕ) (ws vs : List ℕ) (alike : take n ws ≡ take n vs) where
   numbers_alike i (suc m) l =
       let p = at_alike i (omega arith) in
       let q = numbers_alike (suc i) m (omega arith) in
-      ap (λ o. goes_on ws i m (number_by ws i o)) p ∙ ap (λ later. fault_or (number_by ws i (at vs i)) later) q
+      ap (λ o. goes_on ws i m (number_by ws i o)) p ∙ ap (λ later. fault_or (number_by ws i (slice_get vs i)) later) q
 
   -- records that end before that place
 

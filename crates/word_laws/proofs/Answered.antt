@@ -2,7 +2,8 @@
 use Rattle.std.proofs.Common.{◌≡◌, ℕ, suc, ◌<◌, true, List, [], ◌∷◌, ◌++◌, take, drop, Ok, Err, Result, sym, refl, ap, ◌∙◌, subst, ⊎_elim, append_assoc, append-nil, arith, take-append-drop}
 use Rattle.std.proofs.lemmas.List.{take-take}
 use Rattle.std.proofs.lemmas.Bool.{both_ways, cases_order}
-use Rattle.rows.specs.Table.{Table, at, within}
+use Rattle.std.specs.List.{slice_get}
+use Rattle.rows.specs.Table.{Table, within}
 use Rattle.words.specs.declared.fault.WordFault.{WordFault}
 use Rattle.words.specs.declared.fault.LoadFault.{LoadFault}
 use Rattle.words.specs.declared.fault.LoadFault.TheVariants.{Word}
@@ -73,7 +74,7 @@ module _ (ws : List ℕ) where
   same_fault f g (offending p w _ o y) (offending q v _ x z) =
       let i = same_place ws p w q v o x in
       let a = o.there in
-      let c = ap (at ws) i ∙ x.there in
+      let c = ap (slice_get ws) i ∙ x.there in
       let j : w ≡ v = cc in
       same_why ws q v f g (subst (λ k. Why ws k v f) i (subst (λ k. Why ws p k f) j y)) z
 

@@ -7,7 +7,8 @@ use Rattle.std.proofs.lemmas.List.{length-map, length-take-le, take_at}
 use Rattle.std.proofs.ByRecursion.{All-push}
 use Rattle.std.proofs.lemmas.Bool.{and_parts, and_from}
 use Rattle.rows.specs.declared.row.Placement.TheVariants.{Free}
-use Rattle.rows.specs.Table.{ActorRow, ChannelRow, Table, actor_with, channel_with, at, every, actor_fault, channel_fault, lawful, add_actor, add_channel}
+use Rattle.std.specs.List.{list_all, slice_get}
+use Rattle.rows.specs.Table.{ActorRow, ChannelRow, Table, actor_with, channel_with, actor_fault, channel_fault, lawful, add_actor, add_channel}
 use Rattle.rows.proofs.Parts.{passes_none}
 use Rattle.table.proofs.Lawful.{lawful_parts}
 use Rattle.words.specs.Format.{kind_of, content_of, word_of, actor_words, channel_words, ends_content, row_words}
@@ -22,9 +23,9 @@ use Rattle.word_laws.proofs.Reading.{words_with_actor, words_with_channel, Sofar
 
 -- a lawful table is shaped
 
-all_tested : {X : Type 0} (test : X → Bool) (P : X → Type 0) → ((x : X) → test x ≡ true → P x) → (xs : List X) → every test xs ≡ true → AllByRecursion P xs
+all_tested : {X : Type 0} (test : X → Bool) (P : X → Type 0) → ((x : X) → test x ≡ true → P x) → (xs : List X) → list_all test xs ≡ true → AllByRecursion P xs
 all_tested test P f [] e = tt
-all_tested test P f (x ∷ xs) e = let p = and_parts (test x) (every test xs) e in (f x p.0, all_tested test P f xs p.1)
+all_tested test P f (x ∷ xs) e = let p = and_parts (test x) (list_all test xs) e in (f x p.0, all_tested test P f xs p.1)
 
 pub lawful_shaped : (t : Table) → lawful t ≡ true → Shaped t
 lawful_shaped t e =
@@ -118,28 +119,28 @@ module _ (ws : List ℕ) (h : ℕ) (t : Table) (s : Sofar ws h t) where
 
 -- numbers, completed by zeros
 
-zeros_small : (k : ℕ) → every small (replicate k 0) ≡ true
+zeros_small : (k : ℕ) → list_all small (replicate k 0) ≡ true
 zeros_small zero = refl
 zeros_small (suc k) = zeros_small k
 
-every_join : {X : Type 0} (test : X → Bool) (xs ys : List X) → every test xs ≡ true → every test ys ≡ true → every test (xs ++ ys) ≡ true
+every_join : {X : Type 0} (test : X → Bool) (xs ys : List X) → list_all test xs ≡ true → list_all test ys ≡ true → list_all test (xs ++ ys) ≡ true
 every_join test [] ys e f = f
 every_join test (x ∷ xs) ys e f =
-    let p = and_parts (test x) (every test xs) e in and_from (test x) (every test (xs ++ ys)) p.0 (every_join test xs ys p.1 f)
+    let p = and_parts (test x) (list_all test xs) e in and_from (test x) (list_all test (xs ++ ys)) p.0 (every_join test xs ys p.1 f)
 
-every_parts : {X : Type 0} (test : X → Bool) (xs ys : List X) → every test (xs ++ ys) ≡ true → (every test xs ≡ true) × (every test ys ≡ true)
+every_parts : {X : Type 0} (test : X → Bool) (xs ys : List X) → list_all test (xs ++ ys) ≡ true → (list_all test xs ≡ true) × (list_all test ys ≡ true)
 every_parts test [] ys e = (refl, e)
 every_parts test (x ∷ xs) ys e =
-    let p = and_parts (test x) (every test (xs ++ ys)) e in
+    let p = and_parts (test x) (list_all test (xs ++ ys)) e in
     let q = every_parts test xs ys p.1 in
-    (and_from (test x) (every test xs) p.0 q.0, q.1)
+    (and_from (test x) (list_all test xs) p.0 q.0, q.1)
 
 record Filled (xs : List ℕ) (n : ℕ) : Type 0 where
   ys : List ℕ
   long : length (xs ++ 0 ∷ ys) ≡ n
-  all_small : every small (xs ++ 0 ∷ ys) ≡ true
+  all_small : list_all small (xs ++ 0 ∷ ys) ≡ true
 
-filled : (xs : List ℕ) (n : ℕ) → length xs < n → every small xs ≡ true → Filled xs n
+filled : (xs : List ℕ) (n : ℕ) → length xs < n → list_all small xs ≡ true → Filled xs n
 filled xs n l e =
     let k = n - suc (length xs) in
     let ys = replicate k 0 in
@@ -147,7 +148,7 @@ filled xs n l e =
     let b : length ys ≡ k = length-replicate k 0 in
     record { ys = ys; long = omega arith; all_small = every_join small xs (0 ∷ ys) e (zeros_small k) }
 
-module _ (ws : List ℕ) (h : ℕ) (t : Table) (s : Sofar ws h t) (w : ℕ) (stands : at ws h ≡ Some w) (j : ℕ) (found : numbers_fault ws (suc h) j ≡ None) where
+module _ (ws : List ℕ) (h : ℕ) (t : Table) (s : Sofar ws h t) (w : ℕ) (stands : slice_get ws h ≡ Some w) (j : ℕ) (found : numbers_fault ws (suc h) j ≡ None) where
   numbers_taken : (ns : Numbers ws (suc h) j) → take (suc h + j) ws ≡ row_words t ++ (w ∷ map (word_of 3) ns.numbers)
   numbers_taken ns =
       ap (λ i. take (suc h + i) ws) (sym ns.many)
@@ -186,7 +187,7 @@ module _ (ws : List ℕ) (h : ℕ) (t : Table) (s : Sofar ws h t) (w : ℕ) (sta
       let reads = drop n full in
       let n_long : length writes ≡ n = length-take-le n full (omega arith) in
       let m_long : length reads ≡ m = length-drop n full ∙ (let z : length full - n ≡ m = omega arith in z) in
-      let parts = every_parts small writes reads (ap (every small) whole ∙ fill.all_small) in
+      let parts = every_parts small writes reads (ap (list_all small) whole ∙ fill.all_small) in
       let c = channel_with (writer_in content) (reader_in content) writes reads None in
       let fits : ChannelFits c =
       record {

@@ -2,7 +2,7 @@
 use Rattle.std.proofs.Common.{◌≡◌, ℕ, zero, suc, ◌+◌, ◌<◌, Bool, true, false, cond, not, ◌&&◌, eqb, ltb, ◌⊎◌, List, length, Some, None, Err, Option, refl, ◌∙◌, subst, inl, inr, ⊎_elim, arith}
 use Rattle.std.proofs.lemmas.Bool.{and_parts, not-true, ltb-true, eqb-true, eqb-false}
 use Rattle.rows.specs.Steps.{answer}
-use Rattle.rows.specs.Table.{at}
+use Rattle.std.specs.List.{slice_get}
 use Rattle.words.specs.Checks.{check}
 use Rattle.words.specs.declared.fault.WordFault.{WordFault}
 use Rattle.words.specs.declared.fault.WordFault.TheVariants.{Missing, Misplaced, WrongEnd}
@@ -13,8 +13,8 @@ use Rattle.words.proofs.Headed.{by}
 
 -- the word at place p is no number
 pub data NoNumber (ws : List ℕ) (p : ℕ) (f : WordFault) : Type 0 where
-  lacks : at ws p ≡ None → f ≡ Missing p → NoNumber ws p f
-  other : (w : ℕ) → at ws p ≡ Some w → (kind_of w ≡ 3 → ⊥) → f ≡ wrong_kind p w → NoNumber ws p f
+  lacks : slice_get ws p ≡ None → f ≡ Missing p → NoNumber ws p f
+  other : (w : ℕ) → slice_get ws p ≡ Some w → (kind_of w ≡ 3 → ⊥) → f ≡ wrong_kind p w → NoNumber ws p f
 
 -- of n words from place i on, the first that is no number
 pub record Short (ws : List ℕ) (i n : ℕ) (f : WordFault) : Type 0 where
@@ -24,15 +24,15 @@ pub record Short (ws : List ℕ) (i n : ℕ) (f : WordFault) : Type 0 where
   pub stops : NoNumber ws (i + before) f
 
 pub data Faulty (b : Bool) (ws : List ℕ) (h : ℕ) (f : WordFault) : Type 0 where
-  no_head : at ws h ≡ None → f ≡ Missing h → Faulty b ws h f
-  wrong_head : (w : ℕ) → at ws h ≡ Some w → (kind_of w ≡ 1 → ⊥) → (kind_of w ≡ 2 → ⊥) → (kind_of w ≡ 7 → ⊥) → f ≡ wrong_kind h w → Faulty b ws h f
-  wrong_actor : (w : ℕ) → at ws h ≡ Some w → kind_of w ≡ 1 → (not b && ltb (content_of w) 256) ≡ false → f ≡ Misplaced h → Faulty b ws h f
-  in_actor : (w : ℕ) → at ws h ≡ Some w → kind_of w ≡ 1 → b ≡ false → content_of w < 256 → Short ws (suc h) (content_of w) f → Faulty b ws h f
-  wrong_channel : (w : ℕ) → at ws h ≡ Some w → kind_of w ≡ 2 → ltb (content_of w) 16777216 ≡ false → f ≡ Misplaced h → Faulty b ws h f
-  in_channel : (w : ℕ) → at ws h ≡ Some w → kind_of w ≡ 2 → content_of w < 16777216 → Short ws (suc h) (writes_in (content_of w) + reads_in (content_of w)) f
+  no_head : slice_get ws h ≡ None → f ≡ Missing h → Faulty b ws h f
+  wrong_head : (w : ℕ) → slice_get ws h ≡ Some w → (kind_of w ≡ 1 → ⊥) → (kind_of w ≡ 2 → ⊥) → (kind_of w ≡ 7 → ⊥) → f ≡ wrong_kind h w → Faulty b ws h f
+  wrong_actor : (w : ℕ) → slice_get ws h ≡ Some w → kind_of w ≡ 1 → (not b && ltb (content_of w) 256) ≡ false → f ≡ Misplaced h → Faulty b ws h f
+  in_actor : (w : ℕ) → slice_get ws h ≡ Some w → kind_of w ≡ 1 → b ≡ false → content_of w < 256 → Short ws (suc h) (content_of w) f → Faulty b ws h f
+  wrong_channel : (w : ℕ) → slice_get ws h ≡ Some w → kind_of w ≡ 2 → ltb (content_of w) 16777216 ≡ false → f ≡ Misplaced h → Faulty b ws h f
+  in_channel : (w : ℕ) → slice_get ws h ≡ Some w → kind_of w ≡ 2 → content_of w < 16777216 → Short ws (suc h) (writes_in (content_of w) + reads_in (content_of w)) f
       → Faulty b ws h f
-  wrong_end : (w : ℕ) → at ws h ≡ Some w → kind_of w ≡ 7 → (content_of w ≡ h → ⊥) → f ≡ WrongEnd h → Faulty b ws h f
-  not_last : (w : ℕ) → at ws h ≡ Some w → kind_of w ≡ 7 → content_of w ≡ h → (length ws ≡ suc h → ⊥) → f ≡ WrongEnd (suc h) → Faulty b ws h f
+  wrong_end : (w : ℕ) → slice_get ws h ≡ Some w → kind_of w ≡ 7 → (content_of w ≡ h → ⊥) → f ≡ WrongEnd h → Faulty b ws h f
+  not_last : (w : ℕ) → slice_get ws h ≡ Some w → kind_of w ≡ 7 → content_of w ≡ h → (length ws ≡ suc h → ⊥) → f ≡ WrongEnd (suc h) → Faulty b ws h f
 
 absurdly : {X : Type 0} → ◌≡◌ {A = ℕ} 0 1 → X
 absurdly z = absurd (let y : ⊥ = omega arith in y)
@@ -51,14 +51,14 @@ check_cases false g later f e = inl (refl, cc)
 module _ (ws : List ℕ) where
   short : (n i : ℕ) (f : WordFault) → numbers_fault ws i n ≡ Some f → Short ws i n f
   short zero i f e = absurdly (cc)
-  short (suc n) i f e = first (λ d. short n (suc i) f d) (at ws i) refl e
+  short (suc n) i f e = first (λ d. short n (suc i) f d) (slice_get ws i) refl e
     where
       here : NoNumber ws i f → Short ws i (suc n) f
       here s =
           let z : i ≡ i + 0 = omega arith in
           record { before = 0; fewer = omega arith; numbers = refl; stops = subst (λ p. NoNumber ws p f) z s }
 
-      later : (numbers_fault ws (suc i) n ≡ Some f → Short ws (suc i) n f) → (w : ℕ) → at ws i ≡ Some w → (s : Bool) → eqb (kind_of w) 3 ≡ s → goes_on ws i n (check s (wrong_kind i w) None) ≡ Some f → Short ws i (suc n) f
+      later : (numbers_fault ws (suc i) n ≡ Some f → Short ws (suc i) n f) → (w : ℕ) → slice_get ws i ≡ Some w → (s : Bool) → eqb (kind_of w) 3 ≡ s → goes_on ws i n (check s (wrong_kind i w) None) ≡ Some f → Short ws i (suc n) f
       later next w a true k e =
           let s = next e in
           let j = s.before in
@@ -72,13 +72,13 @@ module _ (ws : List ℕ) where
           }
       later next w a false k e = here (other w a (eqb-false (kind_of w) 3 k) (cc))
 
-      first : (numbers_fault ws (suc i) n ≡ Some f → Short ws (suc i) n f) → (o : Option ℕ) → at ws i ≡ o → goes_on ws i n (number_by ws i o) ≡ Some f → Short ws i (suc n) f
+      first : (numbers_fault ws (suc i) n ≡ Some f → Short ws (suc i) n f) → (o : Option ℕ) → slice_get ws i ≡ o → goes_on ws i n (number_by ws i o) ≡ Some f → Short ws i (suc n) f
       first next None a e = here (lacks a (cc))
       first next (Some w) a e = later next w a (eqb (kind_of w) 3) refl e
 
 -- a record, by its head
 
-module _ (b : Bool) (ws : List ℕ) (h w : ℕ) (stands : at ws h ≡ Some w) (f : WordFault) where
+module _ (b : Bool) (ws : List ℕ) (h w : ℕ) (stands : slice_get ws h ≡ Some w) (f : WordFault) where
   faulty_actor : kind_of w ≡ 1 → actor_at b ws h (content_of w) ≡ Err f → Faulty b ws h f
   faulty_actor k e =
       let n = content_of w in
@@ -110,8 +110,8 @@ module _ (b : Bool) (ws : List ℕ) (h w : ℕ) (stands : at ws h ≡ Some w) (f
       wrong_head w stands (eqb-false (kind_of w) 1 k1) (eqb-false (kind_of w) 2 k2) (eqb-false (kind_of w) 7 k7) (cc)
 
 pub faulty : (b : Bool) (ws : List ℕ) (h : ℕ) (f : WordFault) → record_at b ws h ≡ Err f → Faulty b ws h f
-faulty b ws h f e = by_head (at ws h) refl e
+faulty b ws h f e = by_head (slice_get ws h) refl e
   where
-    by_head : (o : Option ℕ) → at ws h ≡ o → by b ws h o ≡ Err f → Faulty b ws h f
+    by_head : (o : Option ℕ) → slice_get ws h ≡ o → by b ws h o ≡ Err f → Faulty b ws h f
     by_head None a e = no_head a (cc)
     by_head (Some w) a e = faulty_headed b ws h w a f (eqb (kind_of w) 1) (eqb (kind_of w) 2) (eqb (kind_of w) 7) refl refl refl e

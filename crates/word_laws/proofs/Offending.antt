@@ -3,7 +3,8 @@ use Rattle.std.proofs.Common.{◌≡◌, ℕ, zero, suc, ◌+◌, ◌<◌, ◌�
 use Rattle.std.proofs.lemmas.List.{length-take-le, take_all, take_at, drop_at}
 use Rattle.std.proofs.lemmas.Bool.{and_from, not_from_false, lt-ltb, eq-eqb, ne_eqb, cond-true, cond-false}
 use Rattle.rows.specs.Steps.{answer}
-use Rattle.rows.specs.Table.{Table, at, within}
+use Rattle.std.specs.List.{slice_get}
+use Rattle.rows.specs.Table.{Table, within}
 use Rattle.words.specs.Checks.{check}
 use Rattle.words.proofs.Checks.{check_failed}
 use Rattle.words.specs.declared.fault.WordFault.{WordFault}
@@ -31,35 +32,35 @@ answer_fault o v f e = ap (λ x. answer x v) e
 
 -- a place of the words
 
-past_all : (xs : List ℕ) (i : ℕ) → at xs i ≡ None → length xs ≤ i
+past_all : (xs : List ℕ) (i : ℕ) → slice_get xs i ≡ None → length xs ≤ i
 past_all [] i e = omega arith
 past_all (x ∷ xs) zero e = absurdly (cc)
 past_all (x ∷ xs) (suc i) e = let l = past_all xs i e in omega arith
 
-word_there : (xs : List ℕ) (i : ℕ) → i < length xs → at xs i ≡ Some (get_or xs i 0)
+word_there : (xs : List ℕ) (i : ℕ) → i < length xs → slice_get xs i ≡ Some (get_or xs i 0)
 word_there [] i l = absurd (let z : ⊥ = omega arith in z)
 word_there (x ∷ xs) zero l = refl
 word_there (x ∷ xs) (suc i) l = word_there xs i (omega arith)
 
-take_next : (xs : List ℕ) (i x : ℕ) → at xs i ≡ Some x → take (suc i) xs ≡ take i xs ++ x ∷ []
+take_next : (xs : List ℕ) (i x : ℕ) → slice_get xs i ≡ Some x → take (suc i) xs ≡ take i xs ++ x ∷ []
 take_next [] i x e = absurdly (cc)
 take_next (y ∷ xs) zero x e = let s : y ≡ x = cc in ap (λ z. z ∷ []) s
 take_next (y ∷ xs) (suc i) x e = ap (λ l. y ∷ l) (take_next xs i x e)
 
 -- the first word that is no number is the fault
-numbers_stop : (vs : List ℕ) (i j n v : ℕ) → numbers_fault vs i j ≡ None → j < n → at vs (i + j) ≡ Some v → (kind_of v ≡ 3 → ⊥)
+numbers_stop : (vs : List ℕ) (i j n v : ℕ) → numbers_fault vs i j ≡ None → j < n → slice_get vs (i + j) ≡ Some v → (kind_of v ≡ 3 → ⊥)
     → numbers_fault vs i n ≡ Some (wrong_kind (i + j) v)
 numbers_stop vs i j zero v e l a k = absurd (let z : ⊥ = omega arith in z)
 numbers_stop vs i zero (suc n) v e l a k =
     let z : i + 0 ≡ i = omega arith in
-    numbers_other vs i n v (ap (at vs) (sym z) ∙ a) k ∙ ap (λ p. Some (wrong_kind p v)) (sym z)
-numbers_stop vs i (suc j) (suc n) v e l a k = first (λ d. numbers_stop vs (suc i) j n v d (omega arith) (ap (at vs) z ∙ a) k) (number_by vs i (at vs i)) refl e
+    numbers_other vs i n v (ap (slice_get vs) (sym z) ∙ a) k ∙ ap (λ p. Some (wrong_kind p v)) (sym z)
+numbers_stop vs i (suc j) (suc n) v e l a k = first (λ d. numbers_stop vs (suc i) j n v d (omega arith) (ap (slice_get vs) z ∙ a) k) (number_by vs i (slice_get vs i)) refl e
   where
     z : suc i + j ≡ i + suc j
     z = omega arith
 
-    first : (numbers_fault vs (suc i) j ≡ None → numbers_fault vs (suc i) n ≡ Some (wrong_kind (suc i + j) v)) → (o : Option WordFault) → number_by vs i (at vs i) ≡ o
-        → goes_on vs i j o ≡ None → goes_on vs i n (number_by vs i (at vs i)) ≡ Some (wrong_kind (i + suc j) v)
+    first : (numbers_fault vs (suc i) j ≡ None → numbers_fault vs (suc i) n ≡ Some (wrong_kind (suc i + j) v)) → (o : Option WordFault) → number_by vs i (slice_get vs i) ≡ o
+        → goes_on vs i j o ≡ None → goes_on vs i n (number_by vs i (slice_get vs i)) ≡ Some (wrong_kind (i + suc j) v)
     first next None s d = ap (goes_on vs i n) s ∙ next d ∙ ap (λ p. Some (wrong_kind p v)) z
     first next (Some f) s d = absurdly (cc)
 
@@ -87,7 +88,7 @@ module _ (ws : List ℕ) (h : ℕ) (t : Table) (s : Sofar ws h t) (r : Reached w
       sym (take_at (take n ws) g.more n (length-take-le n ws m)) ∙ ap (take n) g.written in
       never n ws b h r l g.table g.shaped alike f (fault vs alike)
 
-  head_offends : (w : ℕ) → at ws h ≡ Some w → (f : WordFault) → ((vs : List ℕ) → at vs h ≡ Some w → record_at b vs h ≡ Err f) → Offends ws h w
+  head_offends : (w : ℕ) → slice_get ws h ≡ Some w → (f : WordFault) → ((vs : List ℕ) → slice_get vs h ≡ Some w → record_at b vs h ≡ Err f) → Offends ws h w
   head_offends w a f fault =
       let l = there ws h w a in
       record {
@@ -106,8 +107,8 @@ module _ (ws : List ℕ) (h : ℕ) (t : Table) (s : Sofar ws h t) (r : Reached w
   head_missing l = let m = h_within ws h t s in runs_out h (omega arith) (rows_unfinished ws h t s)
 
   -- a record whose numbers are not all there
-  module _ (w : ℕ) (stands : at ws h ≡ Some w) (n : ℕ)
-      (fault : (vs : List ℕ) → at vs h ≡ Some w → (f : WordFault) → numbers_fault vs (suc h) n ≡ Some f → record_at b vs h ≡ Err f) where
+  module _ (w : ℕ) (stands : slice_get ws h ≡ Some w) (n : ℕ)
+      (fault : (vs : List ℕ) → slice_get vs h ≡ Some w → (f : WordFault) → numbers_fault vs (suc h) n ≡ Some f → record_at b vs h ≡ Err f) where
     module _ (j : ℕ) (less : j < n) (numbers : numbers_fault ws (suc h) j ≡ None) where
       p_within : suc h + j ≤ length ws
       p_within = let l = there ws h w stands in numbers_within ws j (suc h) numbers l
@@ -140,27 +141,27 @@ module _ (ws : List ℕ) (h : ℕ) (t : Table) (s : Sofar ws h t) (r : Reached w
           (λ q g. only_number (word_of 7 p) (λ z. omega arith) g) f e
 
   -- the fault of a record, by its head
-  actor_fault_lem : (w : ℕ) → kind_of w ≡ 1 → (vs : List ℕ) → at vs h ≡ Some w → (f : WordFault)
+  actor_fault_lem : (w : ℕ) → kind_of w ≡ 1 → (vs : List ℕ) → slice_get vs h ≡ Some w → (f : WordFault)
       → check (not b && ltb (content_of w) 256) (Misplaced h) (numbers_fault vs (suc h) (content_of w)) ≡ Some f → record_at b vs h ≡ Err f
   actor_fault_lem w k vs a f e = headed_by_lem b vs h w a 1 k ∙ answer_fault _ _ f e
 
-  channel_fault_lem : (w : ℕ) → kind_of w ≡ 2 → (vs : List ℕ) → at vs h ≡ Some w → (f : WordFault)
+  channel_fault_lem : (w : ℕ) → kind_of w ≡ 2 → (vs : List ℕ) → slice_get vs h ≡ Some w → (f : WordFault)
       → check (ltb (content_of w) 16777216) (Misplaced h) (numbers_fault vs (suc h) (writes_in (content_of w) + reads_in (content_of w))) ≡ Some f
       → record_at b vs h ≡ Err f
   channel_fault_lem w k vs a f e = headed_by_lem b vs h w a 2 k ∙ answer_fault _ _ f e
 
-  end_fault : (w : ℕ) → kind_of w ≡ 7 → (vs : List ℕ) → at vs h ≡ Some w → (f : WordFault)
+  end_fault : (w : ℕ) → kind_of w ≡ 7 → (vs : List ℕ) → slice_get vs h ≡ Some w → (f : WordFault)
       → check (eqb (content_of w) h) (WrongEnd h) (check (eqb (length vs) (suc h)) (WrongEnd (suc h)) None) ≡ Some f → record_at b vs h ≡ Err f
   end_fault w k vs a f e = headed_by_lem b vs h w a 7 k ∙ answer_fault _ _ f e
 
   -- a head of a known kind that may not stand here
-  head_misplaced : (w k : ℕ) → at ws h ≡ Some w → kind_of w ≡ k → within 1 7 k ≡ true → k < 7 → ((vs : List ℕ) → at vs h ≡ Some w → record_at b vs h ≡ Err (Misplaced h))
+  head_misplaced : (w k : ℕ) → slice_get ws h ≡ Some w → kind_of w ≡ k → within 1 7 k ≡ true → k < 7 → ((vs : List ℕ) → slice_get vs h ≡ Some w → record_at b vs h ≡ Err (Misplaced h))
       → WordRefused ws (Misplaced h)
   head_misplaced w k a e known low fault =
       offending h w (Misplaced h) (head_offends w a (Misplaced h) fault) (misplaced (rows_unfinished ws h t s) (ap (within 1 7) e ∙ known) (λ q g. omega arith))
 
   -- a word after the end
-  goes_on_lem : (w : ℕ) → at ws h ≡ Some w → kind_of w ≡ 7 → content_of w ≡ h → (length ws ≡ suc h → ⊥) → WordRefused ws (WrongEnd (suc h))
+  goes_on_lem : (w : ℕ) → slice_get ws h ≡ Some w → kind_of w ≡ 7 → content_of w ≡ h → (length ws ≡ suc h → ⊥) → WordRefused ws (WrongEnd (suc h))
   goes_on_lem w a k e more =
       let l = there ws h w a in
       let m : suc h < length ws = omega arith in

@@ -3,7 +3,7 @@ use Rattle.std.proofs.Common.{◌≡◌, ℕ, zero, suc, ◌+◌, ◌-◌, Bool,
 use Rattle.std.specs.List.{between}
 use Rattle.std.proofs.lemmas.List.{length-map}
 use Rattle.std.proofs.lemmas.Bool.{and_parts, and_from, ltb-true, lt-ltb, eqb-true, eq-eqb, cond-true, cond-false}
-use Rattle.rows.specs.Table.{at, every}
+use Rattle.std.specs.List.{list_all, slice_get}
 use Rattle.words.specs.Checks.{check}
 use Rattle.words.proofs.Checks.{check_parts}
 use Rattle.words.specs.declared.fault.WordFault.{WordFault}
@@ -16,7 +16,7 @@ use Rattle.words.proofs.Bits.{kind_of_word, content_of_word, word_again, content
 -- a list from a place on
 
 module _ {X : Type 0} where
-  pub at_first : (xs : List X) (i : ℕ) → at xs i ≡ at (drop i xs) 0
+  pub at_first : (xs : List X) (i : ℕ) → slice_get xs i ≡ slice_get (drop i xs) 0
   at_first [] zero = refl
   at_first [] (suc i) = refl
   at_first (x ∷ xs) zero = refl
@@ -34,15 +34,15 @@ module _ {X : Type 0} where
       let n : length front ≡ j - i = omega arith in
       ap (take (j - i)) e ∙ take_at front more (j - i) n
 
-  pub at_head : (xs : List X) (i : ℕ) (x : X) (more : List X) → drop i xs ≡ x ∷ more → at xs i ≡ Some x
-  at_head xs i x more e = at_first xs i ∙ ap (λ l. at l 0) e
+  pub at_head : (xs : List X) (i : ℕ) (x : X) (more : List X) → drop i xs ≡ x ∷ more → slice_get xs i ≡ Some x
+  at_head xs i x more e = at_first xs i ∙ ap (λ l. slice_get l 0) e
 
   -- the element at a place begins the list from there on
-  first_there : (l : List X) (x : X) → at l 0 ≡ Some x → l ≡ x ∷ drop 1 l
+  first_there : (l : List X) (x : X) → slice_get l 0 ≡ Some x → l ≡ x ∷ drop 1 l
   first_there [] x e = let z : ◌≡◌ {A = ℕ} 0 1 = cc in absurd (let w : ⊥ = omega arith in w)
   first_there (y ∷ l) x e = let s : y ≡ x = cc in ap (λ z. z ∷ l) s
 
-  pub drop_there : (xs : List X) (i : ℕ) (x : X) → at xs i ≡ Some x → drop i xs ≡ x ∷ drop (suc i) xs
+  pub drop_there : (xs : List X) (i : ℕ) (x : X) → slice_get xs i ≡ Some x → drop i xs ≡ x ∷ drop (suc i) xs
   drop_there xs i x e =
       let next : i + 1 ≡ suc i = omega arith in
       first_there (drop i xs) x (sym (at_first xs i) ∙ e) ∙ ap (λ l. x ∷ l) (drop-drop 1 i xs ∙ ap (λ n. drop n xs) next)
@@ -58,10 +58,10 @@ kind_read k c s = kind_of_word k c (ltb-true c 268435456 s)
 pub content_read : (k c : ℕ) → small c ≡ true → content_of (word_of k c) ≡ c
 content_read k c s = content_of_word k c (ltb-true c 268435456 s)
 
-pub contents_read : (k : ℕ) (ns : List ℕ) → every small ns ≡ true → map content_of (map (word_of k) ns) ≡ ns
+pub contents_read : (k : ℕ) (ns : List ℕ) → list_all small ns ≡ true → map content_of (map (word_of k) ns) ≡ ns
 contents_read k [] s = refl
 contents_read k (n ∷ ns) s =
-    let p = and_parts (small n) (every small ns) s in
+    let p = and_parts (small n) (list_all small ns) s in
     let a = content_read k n p.0 in
     let b = contents_read k ns p.1 in
     λ i. a i ∷ b i
@@ -137,20 +137,20 @@ number_fault_in i o = elim o [ None ↦ Some (Missing i) | Some w ↦ check (eqb
 abbrev fault_or : Option WordFault → Option WordFault → Option WordFault
 fault_or o p = elim o [ Some f ↦ Some f | None ↦ p ]
 
-number_read : (ws : List ℕ) (i n : ℕ) → at ws i ≡ Some (word_of 3 n) → small n ≡ true → number_fault ws i ≡ None
+number_read : (ws : List ℕ) (i n : ℕ) → slice_get ws i ≡ Some (word_of 3 n) → small n ≡ true → number_fault ws i ≡ None
 number_read ws i n e s =
     ap (number_fault_in i) e ∙ cond-true (eqb (kind_of (word_of 3 n)) 3) None (Some (wrong_kind i (word_of 3 n))) (ap (λ k. eqb k 3) (kind_read 3 n s))
 
-pub numbers_read : (ws : List ℕ) (i : ℕ) (ns more : List ℕ) → drop i ws ≡ map (word_of 3) ns ++ more → every small ns ≡ true → numbers_fault ws i (length ns) ≡ None
+pub numbers_read : (ws : List ℕ) (i : ℕ) (ns more : List ℕ) → drop i ws ≡ map (word_of 3) ns ++ more → list_all small ns ≡ true → numbers_fault ws i (length ns) ≡ None
 numbers_read ws i [] more e s = refl
 numbers_read ws i (n ∷ ns) more e s =
-    let p = and_parts (small n) (every small ns) s in
+    let p = and_parts (small n) (list_all small ns) s in
     let after = map (word_of 3) ns ++ more in
     ap (λ o. fault_or o (numbers_fault ws (suc i) (length ns))) (number_read ws i n (at_head ws i (word_of 3 n) after e) p.0)
     ∙ numbers_read ws (suc i) ns more (drop_next ws i (word_of 3 n) after e) p.1
 
 -- and their contents are the numbers
-pub numbers_are : (ws : List ℕ) (i j : ℕ) (ns more : List ℕ) → drop i ws ≡ map (word_of 3) ns ++ more → every small ns ≡ true → j ≡ i + length ns
+pub numbers_are : (ws : List ℕ) (i j : ℕ) (ns more : List ℕ) → drop i ws ≡ map (word_of 3) ns ++ more → list_all small ns ≡ true → j ≡ i + length ns
     → map content_of (between i j ws) ≡ ns
 numbers_are ws i j ns more e s k =
     let m = length-map ns (word_of 3) in
@@ -192,7 +192,7 @@ numbers_part ws i (suc n) m e =
 
 pub record Numbers (ws : List ℕ) (i n : ℕ) : Type 0 where
   pub numbers : List ℕ
-  pub small_ones : every small numbers ≡ true
+  pub small_ones : list_all small numbers ≡ true
   pub many : length numbers ≡ n
   pub words : drop i ws ≡ map (word_of 3) numbers ++ drop (i + n) ws
 
@@ -202,9 +202,9 @@ record Number (ws : List ℕ) (i : ℕ) : Type 0 where
   word : drop i ws ≡ word_of 3 number ∷ drop (suc i) ws
 
 number_there : (ws : List ℕ) (i : ℕ) → number_fault ws i ≡ None → Number ws i
-number_there ws i e = found (at ws i) refl e
+number_there ws i e = found (slice_get ws i) refl e
   where
-    found : (o : Option ℕ) → at ws i ≡ o → number_fault_in i o ≡ None → Number ws i
+    found : (o : Option ℕ) → slice_get ws i ≡ o → number_fault_in i o ≡ None → Number ws i
     found None a e = let z : ◌≡◌ {A = ℕ} 0 1 = cc in absurd (let w : ⊥ = omega arith in w)
     found (Some w) a e =
         let p = check_parts (eqb (kind_of w) 3) (wrong_kind i w) None e in
@@ -225,7 +225,7 @@ numbers_there ws i (suc n) e =
     let b : suc i + n ≡ i + suc n = omega arith in
     record {
       numbers = x.number ∷ xs.numbers;
-      small_ones = and_from (small x.number) (every small xs.numbers) x.small_one xs.small_ones;
+      small_ones = and_from (small x.number) (list_all small xs.numbers) x.small_one xs.small_ones;
       many = ap suc xs.many;
       words =
           x.word ∙ ap (λ l. word_of 3 x.number ∷ l) xs.words

@@ -6,7 +6,8 @@ use Rattle.std.proofs.lemmas.List.{flat_map_more, nil_from_length}
 use Rattle.std.proofs.lemmas.Bool.{and_parts, not-false, eqb-true, lt-ltb}
 use Rattle.rows.specs.declared.fault.Fault.{Fault}
 use Rattle.rows.specs.declared.fault.Fault.TheVariants.{TableFull}
-use Rattle.rows.specs.Table.{ActorRow, ChannelRow, Table, empty_table, every, actor_fault, channel_fault, lawful, add_actor, add_channel}
+use Rattle.std.specs.List.{list_all}
+use Rattle.rows.specs.Table.{ActorRow, ChannelRow, Table, empty_table, actor_fault, channel_fault, lawful, add_actor, add_channel}
 use Rattle.rows.proofs.Parts.{passes_none}
 use Rattle.words.proofs.Checks.{check_from}
 use Rattle.table.proofs.Lawful.{lawful_parts, lawful_with_actor, lawful_with_channel}
@@ -150,23 +151,23 @@ module _ (records : ℕ) (ws : List ℕ) (h : ℕ) (t : Table) where
 
 -- a head comes after a record
 
-every_after : {X : Type 0} (test : X → Bool) (xs ys : List X) → every test (xs ++ ys) ≡ true → every test ys ≡ true
+every_after : {X : Type 0} (test : X → Bool) (xs ys : List X) → list_all test (xs ++ ys) ≡ true → list_all test ys ≡ true
 every_after test [] ys e = e
-every_after test (x ∷ xs) ys e = every_after test xs ys (and_parts (test x) (every test (xs ++ ys)) e).1
+every_after test (x ∷ xs) ys e = every_after test xs ys (and_parts (test x) (list_all test (xs ++ ys)) e).1
 
-actors_over : (rows : List ActorRow) (more : List ℕ) → every good_actor rows ≡ true → Over more → Over (flat_map actor_words rows ++ more)
+actors_over : (rows : List ActorRow) (more : List ℕ) → list_all good_actor rows ≡ true → Over more → Over (flat_map actor_words rows ++ more)
 actors_over [] more e o = o
 actors_over (a ∷ rows) more e o =
     let n = length a.times in
-    let few = (actor_fits a (passes_none (actor_fault a) (and_parts (good_actor a) (every good_actor rows) e).0)).few in
+    let few = (actor_fits a (passes_none (actor_fault a) (and_parts (good_actor a) (list_all good_actor rows) e).0)).few in
     let low : n < 268435456 = omega arith in
     over_head 1 n _ (lt-ltb n 268435456 low) refl refl refl
 
-module _ (rows : List ActorRow) (few : length rows ≤ 64) (good : every good_actor rows ≡ true) where
-  channels_over : (cs : List ChannelRow) (more : List ℕ) → every (good_channel rows) cs ≡ true → Over more → Over (flat_map channel_words cs ++ more)
+module _ (rows : List ActorRow) (few : length rows ≤ 64) (good : list_all good_actor rows ≡ true) where
+  channels_over : (cs : List ChannelRow) (more : List ℕ) → list_all (good_channel rows) cs ≡ true → Over more → Over (flat_map channel_words cs ++ more)
   channels_over [] more e o = o
   channels_over (c ∷ cs) more e o =
-      let p = and_parts (good_channel rows c) (every (good_channel rows) cs) e in
+      let p = and_parts (good_channel rows c) (list_all (good_channel rows) cs) e in
       over_head 2 (ends c) _ (ends_fit c (channel_fits rows c few good (passes_none (channel_fault rows c) p.0))) refl refl refl
 
 -- the words of a table's rows are read as these: first those of its actors, then those of its channels
@@ -186,7 +187,7 @@ module _ (ws rest : List ℕ) (over : Over rest) (records : ℕ) where
   channels_pass zero h rows xs (c ∷ cs) l e count = absurd (let w : ⊥ = omega arith in w)
   channels_pass (suc all) h rows xs (c ∷ cs) l e count =
       let law = lawful_parts (rows_of rows (xs ++ c ∷ cs)) l in
-      let good = and_parts (good_channel rows c) (every (good_channel rows) cs) (every_after (good_channel rows) xs (c ∷ cs) law.good_channels) in
+      let good = and_parts (good_channel rows c) (list_all (good_channel rows) cs) (every_after (good_channel rows) xs (c ∷ cs) law.good_channels) in
       let none = passes_none (channel_fault rows c) good.0 in
       let many = law.few_channels in
       let size = length-append xs (c ∷ cs) in
@@ -217,7 +218,7 @@ module _ (ws rest : List ℕ) (over : Over rest) (records : ℕ) where
   actors_pass (suc all) h xs (a ∷ ys) cs l e count =
       let rows = xs ++ a ∷ ys in
       let law = lawful_parts (rows_of rows cs) l in
-      let good = and_parts (good_actor a) (every good_actor ys) (every_after good_actor xs (a ∷ ys) law.good_actors) in
+      let good = and_parts (good_actor a) (list_all good_actor ys) (every_after good_actor xs (a ∷ ys) law.good_actors) in
       let none = passes_none (actor_fault a) good.0 in
       let many = law.few_actors in
       let size = length-append xs (a ∷ ys) in

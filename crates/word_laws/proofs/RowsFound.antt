@@ -3,7 +3,8 @@ use Rattle.std.proofs.Common.{◌≡◌, ℕ, suc, ◌+◌, ◌<◌, ◌≤◌, 
 use Rattle.std.specs.List.{between}
 use Rattle.std.proofs.lemmas.List.{drop_all}
 use Rattle.std.proofs.lemmas.Bool.{and_parts, not-true, ltb-true, eqb-true}
-use Rattle.rows.specs.Table.{ActorRow, ChannelRow, actor_with, channel_with, at, pin_of, placed}
+use Rattle.std.specs.List.{slice_get}
+use Rattle.rows.specs.Table.{ActorRow, ChannelRow, actor_with, channel_with, pin_of, placed}
 use Rattle.words.specs.Checks.{check}
 use Rattle.words.proofs.Checks.{check_parts}
 use Rattle.words.specs.declared.fault.WordFault.TheVariants.{Misplaced, WrongEnd}
@@ -156,7 +157,7 @@ Found b ws h (actor_part part) = FoundActor b ws h part
 Found b ws h (channel_part part) = FoundChannel ws h part
 Found b ws h (end_part part) = drop h ws ≡ word_of 7 h ∷ []
 
-module _ (b : Bool) (ws : List ℕ) (h w : ℕ) (there : at ws h ≡ Some w) where
+module _ (b : Bool) (ws : List ℕ) (h w : ℕ) (there : slice_get ws h ≡ Some w) where
   head_there : (k : ℕ) → kind_of w ≡ k → drop h ws ≡ word_of k (content_of w) ∷ drop (suc h) ws
   head_there k e = drop_there ws h w there ∙ ap (λ x. x ∷ drop (suc h) ws) (word_again w k e)
 
@@ -190,8 +191,8 @@ module _ (b : Bool) (ws : List ℕ) (h w : ℕ) (there : at ws h ≡ Some w) whe
   headed_found p false false false f g i e = let z : ◌≡◌ {A = ℕ} 0 1 = cc in absurd (let w : ⊥ = omega arith in w)
 
 pub record_found : (b : Bool) (ws : List ℕ) (h : ℕ) (p : Part) → record_at b ws h ≡ Ok p → Found b ws h p
-record_found b ws h p e = by_head (at ws h) refl e
+record_found b ws h p e = by_head (slice_get ws h) refl e
   where
-    by_head : (o : Option ℕ) → at ws h ≡ o → record_in b ws h o ≡ Ok p → Found b ws h p
+    by_head : (o : Option ℕ) → slice_get ws h ≡ o → record_in b ws h o ≡ Ok p → Found b ws h p
     by_head None a e = let z : ◌≡◌ {A = ℕ} 0 1 = cc in absurd (let w : ⊥ = omega arith in w)
     by_head (Some w) a e = headed_found b ws h w a p (eqb (kind_of w) 1) (eqb (kind_of w) 2) (eqb (kind_of w) 7) refl refl refl e

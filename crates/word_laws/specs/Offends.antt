@@ -2,7 +2,8 @@
 use Rattle.std.specs.Prelude.{◌≡◌, ℕ, suc, ◌<◌, ◌≤◌, true, false, List, [], ◌∷◌, ◌++◌, length, take, Some}
 use Rattle.std.specs.List.{AllByRecursion}
 use Rattle.rows.specs.declared.fault.Fault.{Fault}
-use Rattle.rows.specs.Table.{ActorRow, ChannelRow, Table, at, within, lawful, add_actor, add_channel}
+use Rattle.std.specs.List.{slice_get}
+use Rattle.rows.specs.Table.{ActorRow, ChannelRow, Table, within, lawful, add_actor, add_channel}
 use Rattle.words.specs.declared.fault.WordFault.{WordFault}
 use Rattle.words.specs.declared.fault.WordFault.TheVariants.{Missing, UnknownKind, Misplaced, WrongEnd}
 use Rattle.words.specs.declared.fault.LoadFault.{LoadFault}
@@ -30,7 +31,7 @@ pub record Unfinished (words : List ℕ) : Type 0 where
 
 -- the word at place p, which is w, is the first that offends: the words before it begin a table, and with it they do not
 pub record Offends (words : List ℕ) (p w : ℕ) : Type 0 where
-  pub there : at words p ≡ Some w
+  pub there : slice_get words p ≡ Some w
   pub before : Begins (take p words)
   pub not_with_it : Begins (take (suc p) words) → ⊥
 

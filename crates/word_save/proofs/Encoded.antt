@@ -7,7 +7,8 @@ use Rattle.std.proofs.lemmas.List.Folds.{flat_map-map}
 use Rattle.std.proofs.lemmas.Bool.{and_parts}
 use Rattle.rows.specs.declared.row.Actor.{Actor}
 use Rattle.rows.specs.declared.row.Channel.{Channel}
-use Rattle.rows.specs.Table.{Table, every, lawful, passes, actor_fault, channel_fault}
+use Rattle.std.specs.List.{list_all}
+use Rattle.rows.specs.Table.{Table, lawful, passes, actor_fault, channel_fault}
 use Rattle.rows.specs.Values.{actor_row, channel_row}
 use Rattle.rows.proofs.Parts.{passes_none}
 use Rattle.table.proofs.Lawful.{lawful_parts}
@@ -16,13 +17,13 @@ use Rattle.words.specs.Format.{word_of, actor_words, channel_words, row_words, t
 use Rattle.words.proofs.Fits.{actor_fits, channel_fits, rows_few}
 
 -- an element of a list that passes a test
-every_at : {X : Type 0} (test : X → Bool) (xs : List X) (i : ℕ) (d : X) → every test xs ≡ true → i < length xs → test (get_or xs i d) ≡ true
+every_at : {X : Type 0} (test : X → Bool) (xs : List X) (i : ℕ) (d : X) → list_all test xs ≡ true → i < length xs → test (get_or xs i d) ≡ true
 every_at test [] i d e h = absurd (let z : ⊥ = omega arith in z)
-every_at test (x ∷ xs) zero d e h = (and_parts (test x) (every test xs) e).0
-every_at test (x ∷ xs) (suc i) d e h = every_at test xs i d (and_parts (test x) (every test xs) e).1 (omega arith)
+every_at test (x ∷ xs) zero d e h = (and_parts (test x) (list_all test xs) e).0
+every_at test (x ∷ xs) (suc i) d e h = every_at test xs i d (and_parts (test x) (list_all test xs) e).1 (omega arith)
 
 -- a row at a place passes the test that all rows pass
-row_passes : {X Y : Type 0} (row : X → Y) (test : Y → Bool) (xs : List X) (ys : List Y) → map row xs ≡ ys → every test ys ≡ true → (i : ℕ) (d : X) → i < length xs
+row_passes : {X Y : Type 0} (row : X → Y) (test : Y → Bool) (xs : List X) (ys : List Y) → map row xs ≡ ys → list_all test ys ≡ true → (i : ℕ) (d : X) → i < length xs
     → test (row (get_or xs i d)) ≡ true
 row_passes row test xs ys e all i d h =
     let n = length-map xs row in

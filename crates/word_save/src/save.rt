@@ -3,7 +3,7 @@ ghost use Rattle.std.specs.Prelude.{◌≡◌, ℕ, ◌+◌, ◌<◌, ◌≤◌,
 ghost use Rattle.arrayvec.specs.ArrayVec.{array_vec_len};
 ghost use Rattle.std.specs.List.{flat_map};
 ghost use Rattle.rows.specs.Steps.{Does};
-ghost use Rattle.rows.specs.Table.{every};
+ghost use Rattle.std.specs.List.{list_all};
 ghost use Rattle.rows.specs.Values.{actor_row, channel_row};
 ghost use Rattle.table.specs.Tables.{table_of};
 ghost use Rattle.words.specs.Fitting.{small, small_if, ActorFits, ChannelFits};
@@ -174,7 +174,7 @@ fn push_option(words: &mut Words, kind: Kind, number: Option<u32>)
 
 // Adds a word for each number.
 fn push_numbers(words: &mut Words, numbers: &[u32])
-    requires { (every small numbers.now ≡ true) × (array_vec_len words.old + length numbers.now ≤ 18) }
+    requires { (list_all small numbers.now ≡ true) × (array_vec_len words.old + length numbers.now ≤ 18) }
     ensures { words.new.items ≡ words.old.items ++ map (word_of 3) numbers.now }
 {
     for n in numbers {
