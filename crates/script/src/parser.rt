@@ -1,6 +1,6 @@
 // The call that a line makes.
 ghost use Rattle.std.specs.Prelude.{◌≡◌};
-ghost use Rattle.script.specs.Grammar.{actor_rest, channel_rest, cut_rest, edit_rest, shown_rest, call_rest, call_of, placed};
+ghost use Rattle.script.specs.Grammar.{actor_rest, channel_rest, cut_rest, edit_rest, shown_rest, call_rest, call_of};
 ghost use Rattle.script.specs.Plain.{plain_edit, plain_call};
 ghost use Rattle.script.specs.Reads.{Reads, ReadsAll};
 ghost use Rattle.script.specs.Rest.{rest_of};
@@ -82,17 +82,8 @@ fn read_actor(heap: Global, line: &mut Line) -> Result<Edit, LineError>
     Ok(Edit::AddActor {
         times,
         not_before,
-        placement: placement_of(pin),
+        placement: Placement::from_pin(pin),
     })
-}
-
-fn placement_of(pin: Option<u32>) -> Placement
-    ensures { result ≡ placed pin }
-{
-    match pin {
-        Some(processor) => Placement::Pinned(processor),
-        None => Placement::Free,
-    }
 }
 
 fn read_channel(heap: Global, line: &mut Line) -> Result<Edit, LineError>

@@ -38,16 +38,9 @@ pub fn parse(heap: Global, text: &[u8]) -> Result<Script, ScriptError>
         mark: None,
         calls: Vec::new(heap),
     };
-    let mut number = 1;
-    let mut start = 0;
-    for (i, b) in text.iter().enumerate() {
-        if *b == LINE_FEED {
-            reader.read_at(heap, number, &text[start..i])?;
-            number += 1;
-            start = i + 1;
-        }
+    for (i, line) in text.split(|b| *b == LINE_FEED).enumerate() {
+        reader.read_at(heap, i + 1, line)?;
     }
-    reader.read_at(heap, number, &text[start..text.len()])?;
     Ok(reader.finish())
 }
 
@@ -66,14 +59,7 @@ impl Reader {
     fn read_at(&mut self, heap: Global, number: usize, line: &[u8]) -> Result<(), ScriptError>
         ensures { ReadsAt (λ _. sofar_of self.new) result (numbered number (line_of (sofar_of self.old) (tokens_of line.now))) }
     {
-        match self.read(heap, line) {
-            Ok(()) => Ok(()),
-            Err(LineError::NoMemory) => Err(ScriptError::NoMemory),
-            Err(LineError::NoCall(expected)) => Err(ScriptError::NoCall {
-                line: number,
-                expected,
-            }),
-        }
+        self.read(heap, line).map_err(|error| error.at(number))
     }
 
     fn read(&mut self, heap: Global, line: &[u8]) -> Result<(), LineError>

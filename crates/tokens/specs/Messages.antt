@@ -37,6 +37,11 @@ expected_text (NumberAfter w) = codes "a number after '" ++ (name_text w ++ code
 expected_text LineEnd = codes "the end of the line"
 expected_text OneMark = codes "'mark' only once, before the first call"
 
+-- the error of a line, in the line of this number
+abbrev pub error_at : ℕ → ReadError Expected → ReadError ExpectedAt
+error_at n NoMemory = NoMemory
+error_at n (NoCall e) = NoCall (record { line = n; expected = e })
+
 abbrev pub error_text : ReadError ExpectedAt → List ℕ
 error_text NoMemory = codes "no memory"
 error_text (NoCall at) = codes "line " ++ (decimal at.line ++ (codes ": expected " ++ expected_text at.expected))

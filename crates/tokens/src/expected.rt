@@ -1,6 +1,6 @@
 // Why a line is no call, and why a text is no script.
 ghost use Rattle.std.specs.Prelude.{◌≡◌, Some};
-ghost use Rattle.tokens.specs.Messages.{expected_text, error_text};
+ghost use Rattle.tokens.specs.Messages.{expected_text, error_at, error_text};
 ghost use Rattle.tokens.specs.declared.expected.ReadError.TheVariants as error;
 
 use crate::token::Token;
@@ -66,6 +66,18 @@ impl From<Expected> for LineError {
 
     fn from(expected: Expected) -> LineError {
         ReadError::NoCall(expected)
+    }
+}
+
+impl LineError {
+    // The error, in the line of this number.
+    pub fn at(self, line: usize) -> ScriptError
+        ensures { result ≡ error_at line self }
+    {
+        match self {
+            ReadError::NoMemory => ReadError::NoMemory,
+            ReadError::NoCall(expected) => ReadError::NoCall(ExpectedAt { line, expected }),
+        }
     }
 }
 
