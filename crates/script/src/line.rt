@@ -1,6 +1,6 @@
 // The tokens of a line that are still to be read.
 ghost use Rattle.std.specs.Prelude.{◌≡◌, IfOk};
-ghost use Rattle.script.specs.Reading.{starts, after_word, this_word, first_number, after_number, number_after, all_numbers, number_if, ended, with_rest};
+ghost use Rattle.script.specs.Reading.{first_token, tail, starts, after_word, this_word, first_number, after_number, number_after, all_numbers, number_if, ended, with_rest};
 ghost use Rattle.script.specs.Rest.{rest_of};
 
 use std::alloc::{AllocError, Global};
@@ -25,6 +25,16 @@ impl<'a> Line<'a> {
             }
             _ => false,
         }
+    }
+
+    // Reads the word that comes next, if one is left.
+    pub(crate) fn next(&mut self) -> Option<Token>
+        ensures value { result ≡ first_token (rest_of self.old) }
+        ensures after { rest_of self.new ≡ tail (rest_of self.old) }
+    {
+        let (first, rest) = self.rest.split_first()?;
+        self.rest = rest;
+        Some(*first)
     }
 
     // Passes over the word, which has to come next.
