@@ -10,7 +10,7 @@ use Rattle.tokens.specs.declared.expected.ReadError.TheVariants.{NoMemory, NoCal
 use Rattle.tokens.specs.declared.expected.Expected.{Expected}
 use Rattle.tokens.specs.Lines.{tokens_of, lines_from, lines_of}
 use Rattle.script.specs.Reading.{and_then}
-use Rattle.script.specs.Scripts.{Sofar, PlainScript, finished, line_of, numbered, lines_read}
+use Rattle.script.specs.Scripts.{Sofar, finished, line_of, numbered, lines_read}
 use Rattle.script.specs.Whole.{FailsAt}
 
 abbrev pub feed : ℕ → Bool

@@ -1,5 +1,5 @@
 -- The call that a line makes.
-use Rattle.std.specs.Prelude.{ℕ, cond, List, Some, None, Ok, Err, Option, Result}
+use Rattle.std.specs.Prelude.{ℕ, cond, List, Ok, Err, Result}
 use Rattle.rows.specs.Table.{actor_with, channel_with, placed}
 use Rattle.session.specs.declared.calls.Ending.TheVariants as ending
 use Rattle.tokens.specs.declared.token.Token.{Token}

@@ -48,10 +48,9 @@ impl Reader {
     fn finish(self) -> Script
         ensures { plain_script result ≡ finished (sofar_of self) }
     {
-        let Reader { mark, calls } = self;
         Script {
-            mark: mark.unwrap_or(0),
-            calls,
+            mark: self.mark.unwrap_or(0),
+            calls: self.calls,
         }
     }
 
@@ -66,17 +65,11 @@ impl Reader {
         ensures { ReadsAll (λ _. sofar_of self.new) result (line_of (sofar_of self.old) (tokens_of line.now)) }
     {
         let words = tokens(heap, line)?;
-        let mut rest = Line {
-            rest: words.as_slice(),
-        };
-        if words.is_empty() {
-            return Ok(());
+        match words.as_slice() {
+            [] => Ok(()),
+            [Token::Mark, rest @ ..] => Ok(self.read_mark(Line { rest })?),
+            words => self.read_call(heap, words),
         }
-        if rest.accept(Token::Mark) {
-            self.read_mark(rest)?;
-            return Ok(());
-        }
-        self.read_call(heap, words.as_slice())
     }
 
     // No mark is given yet, and no call.

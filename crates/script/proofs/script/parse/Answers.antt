@@ -1,10 +1,10 @@
-use Rattle.std.proofs.Common.{◌≡◌, ◌+◌, ◌∷◌, ◌++◌, length, drop, Ok, sym, ap, ◌∙◌, subst, rules}
+use Rattle.std.proofs.Common.{◌+◌, length, drop, Ok, sym, ap, ◌∙◌, subst, rules}
 use Rattle.std.proofs.lemmas.Iterator.Consumers.{YieldsList-at, YieldsList-from_enumerate, YieldsList-turn, YieldsList-end}
 use Rattle.std.proofs.lemmas.Iterator.Splits.{YieldsList-from_slice_split}
 use Rattle.std.proofs.lemmas.List.{length_push}
 use Rattle.std.proofs.lemmas.Result.{err_from_is_err_and}
-use Rattle.tokens.specs.Lines.{tokens_of, lines_of}
-use Rattle.script.specs.Scripts.{line_of, numbered, lines_read, finished}
+use Rattle.tokens.specs.Lines.{lines_of}
+use Rattle.script.specs.Scripts.{lines_read}
 use Rattle.script.specs.Whole.{sofar_of, FailsAt}
 use Rattle.script.proofs.Turns.{feed, at_text_line, at_text_end, then_ok, then_fails}
 use Rattle.script.proofs.script.parse.Goals as goal
