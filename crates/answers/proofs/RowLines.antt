@@ -5,7 +5,7 @@ use Rattle.std.proofs.lemmas.List.{map-append}
 use Rattle.std.proofs.lemmas.Bool.{and_from}
 use Rattle.rows.specs.declared.row.Placement.{Placement}
 use Rattle.rows.specs.declared.row.Placement.TheVariants.{Free, Pinned}
-use Rattle.rows.specs.Table.{ActorRow, ChannelRow, actor_with, channel_with, pin_of}
+use Rattle.rows.specs.Table.{ActorRow, ChannelRow, actor_with, channel_with, pin_of, placed}
 use Rattle.tokens.specs.declared.token.Token.{Token}
 use Rattle.tokens.specs.declared.token.Token.TheVariants.{Number, Actor, Times, NotBefore, Pin, Channel, Writes, Reads, Ceiling}
 use Rattle.tokens.specs.declared.expected.Expected.{Expected}
@@ -13,7 +13,7 @@ use Rattle.tokens.specs.Tokens.{token_of}
 use Rattle.tokens.specs.Lines.{tokens_of, lines_from}
 use Rattle.script.specs.Reading.{Reading, and_then, this_word, first_number, numbers_from, number_if, ended}
 use Rattle.script.specs.Plain.{PlainEdit, PlainCall, actor_added, channel_added, edited}
-use Rattle.script.specs.Grammar.{call_of, placed}
+use Rattle.script.specs.Grammar.{call_of}
 use Rattle.answers.specs.Texts.{spaced_text, option_text, actor_text, channel_text}
 use Rattle.answers.proofs.Spaced.{wordly, all_words, spaced, words_read, line_read, spaced_append, words_append}
 use Rattle.answers.proofs.Figures.{small, all_small, figures_word, figures_token, list_words, list_tokens, list_spaced}

@@ -1,46 +1,76 @@
--- One turn of the loop that cuts a text into lines.
-use Rattle.std.proofs.Common.{◌≡◌, ℕ, ◌+◌, ◌<◌, ◌≤◌, true, false, cond, eqb, List, [], ◌∷◌, ◌++◌, length, get_or, drop, Ok, Result, ap, ◌∙◌}
+-- The lines of a text, one after the other.
+use Rattle.std.proofs.Common.{◌≡◌, ℕ, ◌+◌, ◌<◌, ◌≤◌, Bool, true, false, cond, eqb, List, [], ◌∷◌, ◌++◌, length, get_or, drop, Ok, Result, refl, sym, ap, ◌∙◌, append_assoc, append-nil, subst, arith}
+use Rattle.std.specs.List.{slice_split, onto_first, enumerate_from}
 use Rattle.std.proofs.lemmas.List.{at_drop_more, at_drop_all}
-use Rattle.std.proofs.lemmas.Bool.{cond-true, cond-false}
+use Rattle.std.proofs.lemmas.List.Splits.{length-slice_split}
+use Rattle.std.proofs.lemmas.List.FromFn.{length-enumerate_from, get_or-enumerate_from}
+use Rattle.tokens.specs.declared.expected.ExpectedAt.{ExpectedAt}
+use Rattle.tokens.specs.declared.expected.ReadError.{ReadError}
+use Rattle.tokens.specs.declared.expected.ReadError.TheVariants.{NoMemory, NoCall}
 use Rattle.tokens.specs.declared.expected.Expected.{Expected}
-use Rattle.tokens.specs.declared.expected.ScriptError.{ScriptError}
-use Rattle.tokens.specs.declared.expected.ScriptError.TheVariants.{NoMemory, NoCall}
-use Rattle.tokens.specs.Lines.{tokens_of, lines_from}
+use Rattle.tokens.specs.Lines.{tokens_of, lines_from, lines_of}
 use Rattle.script.specs.Reading.{and_then}
-use Rattle.script.specs.Scripts.{Sofar, PlainScript, finished, line_of, numbered, lines_read}
+use Rattle.script.specs.Scripts.{Sofar, finished, line_of, numbered, lines_read}
 use Rattle.script.specs.Whole.{FailsAt}
+
+abbrev pub feed : ℕ → Bool
+feed b = eqb b 10
+
+-- the line that was begun goes before the first
+abbrev onto_line : List ℕ → List (List ℕ) → List (List ℕ)
+onto_line w [] = w ∷ []
+onto_line w (p ∷ ps) = (w ++ p) ∷ ps
+
+onto_none : (ps : List (List ℕ)) → 0 < length ps → onto_line [] ps ≡ ps
+onto_none [] h = absurd (let z : ⊥ = omega arith in z)
+onto_none (p ∷ ps) h = refl
+
+onto_byte : (w : List ℕ) (b : ℕ) (ps : List (List ℕ)) → onto_line (w ++ b ∷ []) ps ≡ onto_line w (onto_first b ps)
+onto_byte w b [] = refl
+onto_byte w b (p ∷ ps) = ap (λ x. x ∷ ps) (append_assoc w (b ∷ []) p)
+
+one_byte : (t : Bool) (w : List ℕ) (b : ℕ) (bs : List ℕ) (ps : List (List ℕ)) → lines_from [] bs ≡ ps → lines_from (w ++ b ∷ []) bs ≡ onto_line (w ++ b ∷ []) ps
+    → cond t (w ∷ lines_from [] bs) (lines_from (w ++ b ∷ []) bs) ≡ onto_line w (cond t ([] ∷ ps) (onto_first b ps))
+one_byte true w b bs ps x y = ap (λ l. w ∷ l) x ∙ ap (λ l. l ∷ ps) (sym (append-nil w))
+one_byte false w b bs ps x y = y ∙ onto_byte w b ps
+
+split_some : (text : List ℕ) → 0 < length (slice_split feed text)
+split_some text = omega (arith, length-slice_split feed text)
+
+split_from : (w text : List ℕ) → lines_from w text ≡ onto_line w (slice_split feed text)
+split_from w [] = ap (λ l. l ∷ []) (sym (append-nil w))
+split_from w (b ∷ bs) = one_byte (feed b) w b bs (slice_split feed bs) (split_from [] bs ∙ onto_none _ (split_some bs)) (split_from (w ++ b ∷ []) bs)
+
+pub lines_by_split : (text : List ℕ) → slice_split feed text ≡ lines_of text
+lines_by_split text = sym (split_from [] text ∙ onto_none _ (split_some text))
+
+-- the line at k, as `enumerate` gives it
+abbrev pub IsLineAt : List (List ℕ) → ℕ → ℕ × List ℕ → Type 0
+IsLineAt ls k p = (k < length (enumerate_from 0 ls)) × (p ≡ get_or (enumerate_from 0 ls) k p)
+
+at_line : (ls : List (List ℕ)) (k i : ℕ) (line : List ℕ) (s : Sofar) → IsLineAt ls k (i, line)
+    → lines_read (k + 1) s (drop k ls) ≡ and_then (numbered (i + 1) (line_of s (tokens_of line))) (λ t. lines_read (k + 1 + 1) t (drop (k + 1) ls))
+at_line ls k i line s h =
+    let some : k < length ls = omega (arith, h.0, length-enumerate_from 0 ls) in
+    let e : ◌≡◌ {A = ℕ × List ℕ} (i, line) (0 + k, get_or ls k line) = h.1 ∙ get_or-enumerate_from 0 ls k (i, line) some in
+    let place : k ≡ i = let q : i ≡ 0 + k = ap (λ p. p.0) e in omega arith in
+    let same : get_or ls k line ≡ line = sym (ap (λ p. p.1) e) in
+    at_drop_more (lines_read (k + 1) s) ls k line some
+    ∙ (λ j. and_then (numbered (place j + 1) (line_of s (tokens_of (same j)))) (λ t. lines_read (k + 1 + 1) t (drop (k + 1) ls)))
+
+pub at_text_line : (text : List ℕ) (k i : ℕ) (line : List ℕ) (s : Sofar) → IsLineAt (slice_split feed text) k (i, line)
+    → lines_read (k + 1) s (drop k (lines_of text)) ≡ and_then (numbered (i + 1) (line_of s (tokens_of line))) (λ t. lines_read (k + 1 + 1) t (drop (k + 1) (lines_of text)))
+at_text_line text k i line s h = at_line (lines_of text) k i line s (subst (λ ls. IsLineAt ls k (i, line)) (lines_by_split text) h)
+
+pub at_text_end : (text : List ℕ) (k : ℕ) (s : Sofar) → k ≡ length (enumerate_from 0 (slice_split feed text)) → lines_read (k + 1) s (drop k (lines_of text)) ≡ Ok (finished s)
+at_text_end text k s h =
+    let all : length (lines_of text) ≤ k = omega (arith, h, length-enumerate_from 0 (slice_split feed text), ap length (lines_by_split text)) in
+    at_drop_all (lines_read (k + 1) s) (lines_of text) k all
 
 -- a step that gave a value, or that failed
 pub then_ok : {X Y E : Type 0} (r : Result X E) (k : X → Result Y E) (x : X) → r ≡ Ok x → and_then r k ≡ k x
 then_ok r k x e = ap (λ q. and_then q k) e
 
-pub then_fails : {X Y : Type 0} (f : ScriptError) (r : Result X (ℕ × Expected)) (k : X → Result Y (ℕ × Expected)) → FailsAt f r → FailsAt f (and_then r k)
+pub then_fails : {X Y : Type 0} (f : ReadError ExpectedAt) (r : Result X (ℕ × Expected)) (k : X → Result Y (ℕ × Expected)) → FailsAt f r → FailsAt f (and_then r k)
 then_fails NoMemory r k h = tt
-then_fails (NoCall n e) r k h = ap (λ q. and_then q k) h
-
-module _ (xs : List ℕ) (n : ℕ) (s : Sofar) (line : List ℕ) (i : ℕ) where
-  -- the answer from here on
-  abbrev pub ahead : Result PlainScript (ℕ × Expected)
-  ahead = lines_read n s (lines_from line (drop i xs))
-
-  abbrev pub read : Result Sofar (ℕ × Expected)
-  read = numbered n (line_of s (tokens_of line))
-
-  pub at_end : length xs ≤ i → ahead ≡ and_then read (λ t. Ok (finished t))
-  at_end h = at_drop_all (λ l. lines_read n s (lines_from line l)) xs i h
-
-  module _ (h : i < length xs) where
-    abbrev b : ℕ
-    b = get_or xs i 0
-
-    abbrev here : List (List ℕ)
-    here = cond (eqb b 10) (line ∷ lines_from [] (drop (i + 1) xs)) (lines_from (line ++ b ∷ []) (drop (i + 1) xs))
-
-    step : ahead ≡ lines_read n s here
-    step = at_drop_more (λ l. lines_read n s (lines_from line l)) xs i 0 h
-
-    pub at_feed : eqb b 10 ≡ true → ahead ≡ and_then read (λ t. lines_read (n + 1) t (lines_from [] (drop (i + 1) xs)))
-    at_feed e = step ∙ ap (lines_read n s) (cond-true (eqb b 10) _ _ e)
-
-    pub at_byte : eqb b 10 ≡ false → ahead ≡ lines_read n s (lines_from (line ++ b ∷ []) (drop (i + 1) xs))
-    at_byte e = step ∙ ap (lines_read n s) (cond-false (eqb b 10) _ _ e)
+then_fails (NoCall at) r k h = ap (λ q. and_then q k) h

@@ -1,8 +1,6 @@
 -- The call that a line makes.
-use Rattle.std.specs.Prelude.{ℕ, cond, List, Some, None, Ok, Err, Option, Result}
-use Rattle.rows.specs.declared.row.Placement.{Placement}
-use Rattle.rows.specs.declared.row.Placement.TheVariants.{Free, Pinned}
-use Rattle.rows.specs.Table.{actor_with, channel_with}
+use Rattle.std.specs.Prelude.{ℕ, cond, List, Ok, Err, Result}
+use Rattle.rows.specs.Table.{actor_with, channel_with, placed}
 use Rattle.session.specs.declared.calls.Ending.TheVariants as ending
 use Rattle.tokens.specs.declared.token.Token.{Token}
 use Rattle.tokens.specs.declared.token.Token.TheVariants.{Ticket, Open, Actor, Times, NotBefore, Pin, Channel, Writes, Reads, Ceiling, Cut, Keep, Withdraw, Rows}
@@ -11,10 +9,6 @@ use Rattle.tokens.specs.declared.expected.Expected.TheVariants.{Call, Shown, Kin
 use Rattle.script.specs.Reading.{Reading, and_then, starts, tail, this_word, number_after, all_numbers, number_if}
 use Rattle.script.specs.Reading.{ended as line_ended}
 use Rattle.script.specs.Plain.{PlainEdit, PlainCall, actor_added, channel_added, actor_cut, channel_cut, opened, edited, ended, rows_shown}
-
-abbrev pub placed : Option ℕ → Placement
-placed None = Free
-placed (Some p) = Pinned p
 
 -- after `actor`: times N .. [not-before N] [pin N]
 abbrev pub actor_rest : List Token → Reading PlainEdit

@@ -18,6 +18,10 @@ abbrev pub with_rest : {X E : Type 0} → Result X E → List Token → Result (
 with_rest (Ok x) rest = Ok (x, rest)
 with_rest (Err e) rest = Err e
 
+abbrev pub first_token : List Token → Option Token
+first_token [] = None
+first_token (t ∷ ts) = Some t
+
 abbrev pub starts : Token → List Token → Bool
 starts w [] = false
 starts w (t ∷ ts) = same t w

@@ -1,8 +1,9 @@
 -- The script that the program's values stand for, and what its functions read.
 use Rattle.std.specs.Prelude.{◌≡◌, ℕ, map, Ok, Err, vec_items, Result, MatchResult}
 use Rattle.tokens.specs.declared.expected.Expected.{Expected}
-use Rattle.tokens.specs.declared.expected.ScriptError.{ScriptError}
-use Rattle.tokens.specs.declared.expected.ScriptError.TheVariants.{NoMemory, NoCall}
+use Rattle.tokens.specs.declared.expected.ExpectedAt.{ExpectedAt}
+use Rattle.tokens.specs.declared.expected.ReadError.{ReadError}
+use Rattle.tokens.specs.declared.expected.ReadError.TheVariants.{NoMemory, NoCall}
 use Rattle.script.specs.declared.script.Script.{Script}
 use Rattle.script.specs.declared.script.Reader.{Reader}
 use Rattle.script.specs.Plain.{plain_call}
@@ -15,12 +16,12 @@ abbrev pub sofar_of : Reader → Sofar
 sofar_of r = sofar_with r.mark (map plain_call (vec_items r.calls))
 
 -- the error is a line's number and what was expected there, or that memory is wanting
-abbrev pub FailsAt : {X : Type 0} → ScriptError → Result X (ℕ × Expected) → Type 0
+abbrev pub FailsAt : {X : Type 0} → ReadError ExpectedAt → Result X (ℕ × Expected) → Type 0
 FailsAt NoMemory given = Unit {0}
-FailsAt (NoCall n e) given = given ≡ Err (n, e)
+FailsAt (NoCall at) given = given ≡ Err (at.line, at.expected)
 
 -- r, seen as plain, is what is given
-abbrev pub ReadsAt : {X Y : Type 0} → (X → Y) → Result X ScriptError → Result Y (ℕ × Expected) → Type 0
+abbrev pub ReadsAt : {X Y : Type 0} → (X → Y) → Result X (ReadError ExpectedAt) → Result Y (ℕ × Expected) → Type 0
 ReadsAt plain r given = MatchResult r (λ x. given ≡ Ok (plain x)) (λ f. FailsAt f given)
 
 -- r with the state after it is what is given

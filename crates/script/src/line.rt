@@ -1,6 +1,6 @@
 // The tokens of a line that are still to be read.
 ghost use Rattle.std.specs.Prelude.{◌≡◌, IfOk};
-ghost use Rattle.script.specs.Reading.{starts, after_word, this_word, first_number, after_number, number_after, all_numbers, number_if, ended, with_rest};
+ghost use Rattle.script.specs.Reading.{first_token, tail, starts, after_word, this_word, first_number, after_number, number_after, all_numbers, number_if, ended, with_rest};
 ghost use Rattle.script.specs.Rest.{rest_of};
 
 use std::alloc::{AllocError, Global};
@@ -18,12 +18,23 @@ impl<'a> Line<'a> {
         ensures value { result ≡ starts keyword (rest_of self.old) }
         ensures after { rest_of self.new ≡ after_word keyword (rest_of self.old) }
     {
-        let rest = self.rest;
-        if rest.is_empty() || !rest[0].is(keyword) {
-            return false;
+        match self.rest {
+            [first, rest @ ..] if first.is(keyword) => {
+                self.rest = rest;
+                true
+            }
+            _ => false,
         }
-        self.rest = &rest[1..];
-        true
+    }
+
+    // Reads the word that comes next, if one is left.
+    pub(crate) fn next(&mut self) -> Option<Token>
+        ensures value { result ≡ first_token (rest_of self.old) }
+        ensures after { rest_of self.new ≡ tail (rest_of self.old) }
+    {
+        let (first, rest) = self.rest.split_first()?;
+        self.rest = rest;
+        Some(*first)
     }
 
     // Passes over the word, which has to come next.
@@ -42,25 +53,17 @@ impl<'a> Line<'a> {
         ensures value { result ≡ first_number (rest_of self.old) }
         ensures after { rest_of self.new ≡ after_number (rest_of self.old) }
     {
-        let rest = self.rest;
-        if rest.is_empty() {
-            return None;
-        }
-        let number = rest[0].number();
-        if number.is_some() {
-            self.rest = &rest[1..];
-        }
-        number
+        let (first, rest) = self.rest.split_first()?;
+        let number = first.number()?;
+        self.rest = rest;
+        Some(number)
     }
 
     // Reads a number, which has to come next.
     pub(crate) fn number_after(&mut self, keyword: Token) -> Result<u32, Expected>
         ensures { with_rest result (rest_of self.new) ≡ number_after keyword (rest_of self.old) }
     {
-        match self.number() {
-            Some(n) => Ok(n),
-            None => Err(Expected::NumberAfter(keyword)),
-        }
+        self.number().ok_or(Expected::NumberAfter(keyword))
     }
 
     // Reads all the numbers that come next.
@@ -78,11 +81,11 @@ impl<'a> Line<'a> {
     pub(crate) fn number_if(&mut self, keyword: Token) -> Result<Option<u32>, Expected>
         ensures { with_rest result (rest_of self.new) ≡ number_if keyword (rest_of self.old) }
     {
-        if !self.accept(keyword) {
-            return Ok(None);
+        if self.accept(keyword) {
+            Ok(Some(self.number_after(keyword)?))
+        } else {
+            Ok(None)
         }
-        let n = self.number_after(keyword)?;
-        Ok(Some(n))
     }
 
     // No word is left.

@@ -1,6 +1,6 @@
 // The call that a line makes.
 ghost use Rattle.std.specs.Prelude.{◌≡◌};
-ghost use Rattle.script.specs.Grammar.{actor_rest, channel_rest, cut_rest, edit_rest, shown_rest, call_rest, call_of, placed};
+ghost use Rattle.script.specs.Grammar.{actor_rest, channel_rest, cut_rest, edit_rest, shown_rest, call_rest, call_of};
 ghost use Rattle.script.specs.Plain.{plain_edit, plain_call};
 ghost use Rattle.script.specs.Reads.{Reads, ReadsAll};
 ghost use Rattle.script.specs.Rest.{rest_of};
@@ -26,16 +26,15 @@ fn read_call(heap: Global, mark: u32, line: &mut Line) -> Result<Call, LineError
     ensures { Reads plain_call result (rest_of line.new) (call_rest mark (rest_of line.old)) }
 {
     if line.accept(Token::Open) {
-        return Ok(Call::Open);
-    }
-    if line.accept(Token::Rows) {
-        return Ok(Call::Rows);
-    }
-    if line.accept(Token::Ticket) {
+        Ok(Call::Open)
+    } else if line.accept(Token::Rows) {
+        Ok(Call::Rows)
+    } else if line.accept(Token::Ticket) {
         let shown = line.number_after(Token::Ticket)?;
-        return read_shown(heap, shown, line, Expected::Shown);
+        read_shown(heap, shown, line, Expected::Shown)
+    } else {
+        read_shown(heap, mark, line, Expected::Call)
     }
-    read_shown(heap, mark, line, Expected::Call)
 }
 
 // A call that shows a ticket of this mark.
@@ -48,28 +47,24 @@ fn read_shown(
     ensures { Reads plain_call result (rest_of line.new) (shown_rest shown expected (rest_of line.old)) }
 {
     if line.accept(Token::Keep) {
-        return Ok(Call::End(shown, Ending::Keep));
+        Ok(Call::End(shown, Ending::Keep))
+    } else if line.accept(Token::Withdraw) {
+        Ok(Call::End(shown, Ending::Withdraw))
+    } else {
+        let edit = read_edit(heap, line, expected)?;
+        Ok(Call::Edit(shown, edit))
     }
-    if line.accept(Token::Withdraw) {
-        return Ok(Call::End(shown, Ending::Withdraw));
-    }
-    let edit = read_edit(heap, line, expected)?;
-    Ok(Call::Edit(shown, edit))
 }
 
 fn read_edit(heap: Global, line: &mut Line, expected: Expected) -> Result<Edit, LineError>
     ensures { Reads plain_edit result (rest_of line.new) (edit_rest expected (rest_of line.old)) }
 {
-    if line.accept(Token::Actor) {
-        return read_actor(heap, line);
+    match line.next() {
+        Some(Token::Actor) => read_actor(heap, line),
+        Some(Token::Channel) => read_channel(heap, line),
+        Some(Token::Cut) => read_cut(line),
+        _ => Err(LineError::NoCall(expected)),
     }
-    if line.accept(Token::Channel) {
-        return read_channel(heap, line);
-    }
-    if line.accept(Token::Cut) {
-        return read_cut(line);
-    }
-    Err(LineError::NoCall(expected))
 }
 
 fn read_actor(heap: Global, line: &mut Line) -> Result<Edit, LineError>
@@ -82,17 +77,8 @@ fn read_actor(heap: Global, line: &mut Line) -> Result<Edit, LineError>
     Ok(Edit::AddActor {
         times,
         not_before,
-        placement: placement_of(pin),
+        placement: Placement::from(pin),
     })
-}
-
-fn placement_of(pin: Option<u32>) -> Placement
-    ensures { result ≡ placed pin }
-{
-    match pin {
-        Some(processor) => Placement::Pinned(processor),
-        None => Placement::Free,
-    }
 }
 
 fn read_channel(heap: Global, line: &mut Line) -> Result<Edit, LineError>
@@ -117,13 +103,15 @@ fn read_channel(heap: Global, line: &mut Line) -> Result<Edit, LineError>
 fn read_cut(line: &mut Line) -> Result<Edit, LineError>
     ensures { Reads plain_edit result (rest_of line.new) (cut_rest (rest_of line.old)) }
 {
-    if line.accept(Token::Actor) {
-        let number = line.number_after(Token::Actor)?;
-        return Ok(Edit::CutActor(number as usize));
+    match line.next() {
+        Some(Token::Actor) => {
+            let number = line.number_after(Token::Actor)?;
+            Ok(Edit::CutActor(number as usize))
+        }
+        Some(Token::Channel) => {
+            let number = line.number_after(Token::Channel)?;
+            Ok(Edit::CutChannel(number as usize))
+        }
+        _ => Err(LineError::NoCall(Expected::Kind)),
     }
-    if line.accept(Token::Channel) {
-        let number = line.number_after(Token::Channel)?;
-        return Ok(Edit::CutChannel(number as usize));
-    }
-    Err(LineError::NoCall(Expected::Kind))
 }

@@ -38,16 +38,9 @@ pub fn parse(heap: Global, text: &[u8]) -> Result<Script, ScriptError>
         mark: None,
         calls: Vec::new(heap),
     };
-    let mut number = 1;
-    let mut start = 0;
-    for (i, b) in text.iter().enumerate() {
-        if *b == LINE_FEED {
-            reader.read_at(heap, number, &text[start..i])?;
-            number += 1;
-            start = i + 1;
-        }
+    for (i, line) in text.split(|b| *b == LINE_FEED).enumerate() {
+        reader.read_at(heap, i + 1, line)?;
     }
-    reader.read_at(heap, number, &text[start..text.len()])?;
     Ok(reader.finish())
 }
 
@@ -55,10 +48,9 @@ impl Reader {
     fn finish(self) -> Script
         ensures { plain_script result ≡ finished (sofar_of self) }
     {
-        let Reader { mark, calls } = self;
         Script {
-            mark: mark.unwrap_or(0),
-            calls,
+            mark: self.mark.unwrap_or(0),
+            calls: self.calls,
         }
     }
 
@@ -66,31 +58,18 @@ impl Reader {
     fn read_at(&mut self, heap: Global, number: usize, line: &[u8]) -> Result<(), ScriptError>
         ensures { ReadsAt (λ _. sofar_of self.new) result (numbered number (line_of (sofar_of self.old) (tokens_of line.now))) }
     {
-        match self.read(heap, line) {
-            Ok(()) => Ok(()),
-            Err(LineError::NoMemory) => Err(ScriptError::NoMemory),
-            Err(LineError::NoCall(expected)) => Err(ScriptError::NoCall {
-                line: number,
-                expected,
-            }),
-        }
+        self.read(heap, line).map_err(|error| error.at(number))
     }
 
     fn read(&mut self, heap: Global, line: &[u8]) -> Result<(), LineError>
         ensures { ReadsAll (λ _. sofar_of self.new) result (line_of (sofar_of self.old) (tokens_of line.now)) }
     {
         let words = tokens(heap, line)?;
-        let mut rest = Line {
-            rest: words.as_slice(),
-        };
-        if words.is_empty() {
-            return Ok(());
+        match words.as_slice() {
+            [] => Ok(()),
+            [Token::Mark, rest @ ..] => Ok(self.read_mark(Line { rest })?),
+            words => self.read_call(heap, words),
         }
-        if rest.accept(Token::Mark) {
-            self.read_mark(rest)?;
-            return Ok(());
-        }
-        self.read_call(heap, words.as_slice())
     }
 
     // No mark is given yet, and no call.

@@ -1,9 +1,17 @@
 -- A number read digit by digit.
-use Rattle.std.proofs.Common.{◌≡◌, ℕ, ◌+◌, ◌-◌, ◌*◌, ◌<◌, ◌≤◌, Bool, true, false, cond, ◌&&◌, ltb, leb, List, [], ◌∷◌, length, Some, None, Option, sym, ap, ◌∙◌, ⊎_elim, arith}
+use Rattle.std.proofs.Common.{◌≡◌, ℕ, Iter, ◌+◌, ◌-◌, ◌*◌, ◌<◌, ◌≤◌, Bool, true, false, cond, ◌&&◌, ltb, leb, List, [], ◌∷◌, length, Some, None, Option, refl, sym, ap, ◌∙◌, ⊎_elim, arith}
 use Rattle.std.specs.Str.Parse.{digits_value_after}
 use Rattle.std.specs.Char.{is_ascii_digit, digit_value}
 use Rattle.std.specs.Str.{all_ascii_digits}
 use Rattle.std.proofs.lemmas.Bool.{cases_Bool, cond-true, cond-false, and_from, and_left, and_right, and_parts, leb-true, lt-ltb, le-ltb, ltb-true, ltb-false}
+use Rattle.std.specs.Iterator.{Yields, TryFoldTurn, TryFoldsItems}
+use Rattle.std.specs.List.{FoldsTo}
+use Rattle.std.specs.Fn.{Called}
+use Rattle.std.specs.ControlFlow.{continue_value}
+use Rattle.std.specs.declared.ops.ControlFlow.{ControlFlow}
+use Rattle.std.proofs.lemmas.Fn.{fronts}
+use denote.Param.Members.{Mut}
+use denote.Ref.{Bor}
 use Rattle.tokens.specs.Tokens.{numeral, with_digit}
 
 -- the number that n and the digits that follow it write
@@ -55,3 +63,25 @@ read_from (c ∷ cs) n h =
 
 pub read_all : (w : List ℕ) → 0 < length w → numeral_from 0 w ≡ numeral w
 read_all w h = read_from w 0 (omega arith) ∙ ap (λ b. cond (b && (all_ascii_digits w && ltb (digits_value_after 10 0 w) 4294967296)) (Some (digits_value_after 10 0 w)) None) (sym (lt-ltb 0 (length w) h))
+
+-- the steps of `try_fold` over the digits of a word
+module _ {F : Type 0} (E : Type 0) (g : Mut F (ℕ × (Bor ℕ × Unit {0})) (Option ℕ)) (reads : (f h : F) (n : ℕ) (x : Bor ℕ) (v : Option ℕ) → Called g f (n, (x, tt)) v h → v ≡ with_digit n x.now) where
+  abbrev branches : Option ℕ → ControlFlow E ℕ → Type 0
+  branches o r = o ≡ continue_value r
+
+  read_on : (xs : List (Bor ℕ)) (s t : Iter ℕ) (f h : F) (n a : ℕ) → Yields fronts s xs t → FoldsTo {P = F × ℕ} (TryFoldTurn g branches) (f, n) xs (h, a)
+      → numeral_from n s.rest.now ≡ numeral_from a t.rest.now
+  read_on [] s t f h n a y e = ap (λ k. numeral_from n k.rest.now) y ∙ ap (λ p. numeral_from p.1 t.rest.now) e
+  read_on (x ∷ xs) s t f h n a (j, y, ys) ((k, m), (v, c, b), es) =
+      let went : with_digit n x.now ≡ Some m = sym (reads f k n x v c) ∙ b in
+      ap (numeral_from n) y ∙ ap (goes_on j.rest.now) went ∙ read_on xs j t k h m a ys es
+
+  none_left : (xs : List ℕ) (a : ℕ) → length xs ≡ 0 → numeral_from a xs ≡ Some a
+  none_left [] a e = refl
+  none_left (x ∷ xs) a e = absurd (let z : ⊥ = omega arith in z)
+
+  pub read_by_try_fold : (s u : Iter ℕ) (f : F) (n : ℕ) (r : Option ℕ) → TryFoldsItems fronts g branches (λ _ q. q ≡ None) s f n r u → r ≡ numeral_from n s.rest.now
+  read_by_try_fold s u f n r (xs, None, h, a, (t, y, e), es, b) = b ∙ sym (read_on xs s t f h n a y es ∙ none_left t.rest.now a e.0)
+  read_by_try_fold s u f n r (xs, Some x, h, a, (t, y, e), es, (v, k, d, c, b, q)) =
+      let stopped : with_digit a x.now ≡ None = sym (reads h k a x v c) ∙ b in
+      q ∙ sym (read_on xs s t f h n a y es ∙ ap (numeral_from a) e ∙ ap (goes_on u.rest.now) stopped)

@@ -1,25 +1,81 @@
--- One turn of the loop that cuts a line into words.
-use Rattle.std.proofs.Common.{◌≡◌, ℕ, ◌+◌, ◌<◌, true, false, cond, eqb, List, [], ◌∷◌, ◌++◌, length, get_or, drop, ◌∙◌}
-use Rattle.std.proofs.lemmas.List.{at_drop_more}
-use Rattle.std.proofs.lemmas.Bool.{cond-true, cond-false}
+-- The tokens of a line are those of the words between the blanks, before the sign of a comment.
+use Rattle.std.proofs.Common.{◌≡◌, ℕ, ◌+◌, Bool, true, false, cond, not, ltb, List, [], ◌∷◌, ◌++◌, length, map, filter, take, Some, None, Option, refl, sym, ap, ◌∙◌, append_assoc, append-nil, arith, rules}
+use Prim.Native.Nat.{suc}
+use Rattle.std.proofs.lemmas.Bool.Decides.{nat_tests}
+use Rattle.std.proofs.lemmas.List.Sums.{prefix_len-le-length}
+use Rattle.std.specs.Prelude.{◌==◌}
+use Rattle.std.specs.List.{slice_split, onto_first, before_first, position_or_len}
+use Rattle.std.specs.Option.{unwrap_or}
 use Rattle.tokens.specs.declared.token.Token.{Token}
-use Rattle.tokens.specs.Lines.{blank, with_word, tokens_from}
+use Rattle.tokens.specs.Tokens.{token_of}
+use Rattle.tokens.specs.Lines.{blank, with_word, tokens_from, tokens_of}
 
-module _ (xs : List ℕ) (before : List Token) (w : List ℕ) (i : ℕ) (h : i < length xs) where
-  abbrev b : ℕ
-  b = get_or xs i 0
+abbrev pub comment : ℕ → Bool
+comment b = b == 35
 
-  abbrev others : List Token
-  others = cond (blank b) (tokens_from (with_word before w) [] (drop (i + 1) xs)) (tokens_from before (w ++ b ∷ []) (drop (i + 1) xs))
+abbrev pub some_byte : List ℕ → Bool
+some_byte w = not (length w == 0)
 
-  step : tokens_from before w (drop i xs) ≡ cond (eqb b 35) (with_word before w) others
-  step = at_drop_more (tokens_from before w) xs i 0 h
+-- the tokens of the words that are not empty
+abbrev pub tokens_all : List (List ℕ) → List Token
+tokens_all ws = map token_of (filter some_byte ws)
 
-  pub at_comment : eqb b 35 ≡ true → tokens_from before w (drop i xs) ≡ with_word before w
-  at_comment e = step ∙ cond-true (eqb b 35) (with_word before w) others e
+-- the word that was begun goes before the first
+abbrev onto_word : List ℕ → List (List ℕ) → List (List ℕ)
+onto_word w [] = w ∷ []
+onto_word w (p ∷ ps) = (w ++ p) ∷ ps
 
-  pub at_blank : eqb b 35 ≡ false → blank b ≡ true → tokens_from before w (drop i xs) ≡ tokens_from (with_word before w) [] (drop (i + 1) xs)
-  at_blank e f = step ∙ cond-false (eqb b 35) (with_word before w) others e ∙ cond-true (blank b) _ _ f
+onto_none : (ps : List (List ℕ)) → tokens_all (onto_word [] ps) ≡ tokens_all ps
+onto_none [] = refl
+onto_none (p ∷ ps) = refl
 
-  pub at_letter : eqb b 35 ≡ false → blank b ≡ false → tokens_from before w (drop i xs) ≡ tokens_from before (w ++ b ∷ []) (drop (i + 1) xs)
-  at_letter e f = step ∙ cond-false (eqb b 35) (with_word before w) others e ∙ cond-false (blank b) _ _ f
+onto_letter : (w : List ℕ) (b : ℕ) (ps : List (List ℕ)) → onto_word (w ++ b ∷ []) ps ≡ onto_word w (onto_first b ps)
+onto_letter w b [] = refl
+onto_letter w b (p ∷ ps) = ap (λ x. x ∷ ps) (append_assoc w (b ∷ []) p)
+
+some_first : (b : ℕ) (w : List ℕ) → some_byte (b ∷ w) ≡ true
+some_first b w = search rules
+
+first_token : (b : ℕ) (w : List ℕ) (ps : List (List ℕ)) → tokens_all ((b ∷ w) ∷ ps) ≡ token_of (b ∷ w) ∷ tokens_all ps
+first_token b w ps = ap (λ t. map token_of (cond t ((b ∷ w) ∷ filter some_byte ps) (filter some_byte ps))) (some_first b w)
+
+first_word : (before : List Token) (w : List ℕ) (ps : List (List ℕ)) → with_word before w ++ tokens_all ps ≡ before ++ tokens_all ((w ++ []) ∷ ps)
+first_word before [] ps = refl
+first_word before (b ∷ w) ps =
+    append_assoc before (token_of (b ∷ w) ∷ []) (tokens_all ps) ∙ ap (λ l. before ++ l) (sym (first_token b w ps))
+    ∙ ap (λ x. before ++ tokens_all (x ∷ ps)) (sym (append-nil (b ∷ w)))
+
+last_word : (before : List Token) (w : List ℕ) → with_word before w ≡ before ++ tokens_all ((w ++ []) ∷ [])
+last_word before w = sym (append-nil (with_word before w)) ∙ first_word before w []
+
+-- the parts of a line whose first byte is b
+cut_at : (t : Bool) (b : ℕ) (n : ℕ) (bs : List ℕ) → slice_split blank (take (cond (not t) (1 + n) 0) (b ∷ bs))
+    ≡ cond t ([] ∷ []) (cond (blank b) ([] ∷ slice_split blank (take n bs)) (onto_first b (slice_split blank (take n bs))))
+cut_at true b n bs = refl
+cut_at false b n bs = let e : 1 + n ≡ suc n = omega arith in ap (λ k. slice_split blank (take k (b ∷ bs))) e
+
+one_byte : (t k : Bool) (before : List Token) (w : List ℕ) (b : ℕ) (bs : List ℕ) (ps : List (List ℕ))
+    → tokens_from (with_word before w) [] bs ≡ with_word before w ++ tokens_all (onto_word [] ps)
+    → tokens_from before (w ++ b ∷ []) bs ≡ before ++ tokens_all (onto_word (w ++ b ∷ []) ps)
+    → cond t (with_word before w) (cond k (tokens_from (with_word before w) [] bs) (tokens_from before (w ++ b ∷ []) bs))
+    ≡ before ++ tokens_all (onto_word w (cond t ([] ∷ []) (cond k ([] ∷ ps) (onto_first b ps))))
+one_byte true k before w b bs ps x y = last_word before w
+one_byte false true before w b bs ps x y = x ∙ ap (λ l. with_word before w ++ l) (onto_none ps) ∙ first_word before w ps
+one_byte false false before w b bs ps x y = y ∙ ap (λ l. before ++ tokens_all l) (onto_letter w b ps)
+
+cut_from : (before : List Token) (w line : List ℕ) → tokens_from before w line ≡ before ++ tokens_all (onto_word w (slice_split blank (before_first comment line)))
+cut_from before w [] = last_word before w
+cut_from before w (b ∷ bs) =
+    one_byte (comment b) (blank b) before w b bs (slice_split blank (before_first comment bs)) (cut_from (with_word before w) [] bs) (cut_from before (w ++ b ∷ []) bs)
+    ∙ ap (λ ps. before ++ tokens_all (onto_word w ps)) (sym (cut_at (comment b) b (position_or_len comment bs) bs))
+
+-- the place of the sign, or the line's length
+end_is : (line : List ℕ) (e : ℕ) (p : Option ℕ) → p ≡ cond (ltb (position_or_len comment line) (length line)) (Some (position_or_len comment line)) None
+    → e ≡ unwrap_or p (length line) → e ≡ position_or_len comment line
+end_is line e p h k = grind (arith, nat_tests, prefix_len-le-length (λ b. not (comment b)) line)
+
+pub tokens_by_words : (line : List ℕ) (e : ℕ) (p : Option ℕ) → p ≡ cond (ltb (position_or_len comment line) (length line)) (Some (position_or_len comment line)) None
+    → e ≡ unwrap_or p (length line) → tokens_all (slice_split blank (take e line)) ≡ tokens_of line
+tokens_by_words line e p h k =
+    ap (λ n. tokens_all (slice_split blank (take n line))) (end_is line e p h k)
+    ∙ sym (cut_from [] [] line ∙ onto_none (slice_split blank (before_first comment line)))

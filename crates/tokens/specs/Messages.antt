@@ -4,8 +4,9 @@ use Rattle.tokens.specs.declared.token.Token.{Token}
 use Rattle.tokens.specs.declared.token.Token.TheVariants.{Mark, Ticket, Open, Actor, Times, NotBefore, Pin, Channel, Writes, Reads, Ceiling, Cut, Keep, Withdraw, Rows, Number, Other}
 use Rattle.tokens.specs.declared.expected.Expected.{Expected}
 use Rattle.tokens.specs.declared.expected.Expected.TheVariants.{Call, Shown, Kind, Word, NumberAfter, LineEnd, OneMark}
-use Rattle.tokens.specs.declared.expected.ScriptError.{ScriptError}
-use Rattle.tokens.specs.declared.expected.ScriptError.TheVariants.{NoMemory, NoCall}
+use Rattle.tokens.specs.declared.expected.ExpectedAt.{ExpectedAt}
+use Rattle.tokens.specs.declared.expected.ReadError.{ReadError}
+use Rattle.tokens.specs.declared.expected.ReadError.TheVariants.{NoMemory, NoCall}
 
 -- a token as a line has it
 abbrev pub name_text : Token → List ℕ
@@ -36,6 +37,11 @@ expected_text (NumberAfter w) = codes "a number after '" ++ (name_text w ++ code
 expected_text LineEnd = codes "the end of the line"
 expected_text OneMark = codes "'mark' only once, before the first call"
 
-abbrev pub error_text : ScriptError → List ℕ
+-- the error of a line, in the line of this number
+abbrev pub error_at : ℕ → ReadError Expected → ReadError ExpectedAt
+error_at n NoMemory = NoMemory
+error_at n (NoCall e) = NoCall (record { line = n; expected = e })
+
+abbrev pub error_text : ReadError ExpectedAt → List ℕ
 error_text NoMemory = codes "no memory"
-error_text (NoCall n e) = codes "line " ++ (decimal n ++ (codes ": expected " ++ expected_text e))
+error_text (NoCall at) = codes "line " ++ (decimal at.line ++ (codes ": expected " ++ expected_text at.expected))
