@@ -11,6 +11,7 @@ import os
 import re
 import sys
 from collections import defaultdict
+from difflib import SequenceMatcher
 
 
 def strip(text):
@@ -61,6 +62,22 @@ def functions(source):
         yield m.group(1), source.line(m.start()), params, [re.sub(r"\s+", " ", c).strip() for c in clauses]
 
 
+def bodies(source):
+    """Each function with the text of its body."""
+    for m in re.finditer(r"^ *(?:pub(?:\(crate\))? )?fn (\w+)[^;{]*?(?=\n *(?:requires|ensures)|\{)", source.text, re.M):
+        start = re.compile(r"(?: |\n) *\{\n").search(source.text, m.start())
+        if start:
+            begin, end = body_at(source.text, start.start())
+            yield m.group(1), source.line(m.start()), source.text[begin:end]
+
+
+def shape(body):
+    """The tokens of a body, with one name for every name and one number for every number."""
+    words = {"let", "mut", "if", "else", "match", "for", "in", "while", "loop", "return", "self", "Ok", "Err", "Some", "None"}
+    tokens = re.findall(r"\w+|[^\w\s]", body)
+    return [t if t in words or not re.match(r"\w", t) else "0" if t[0].isdigit() else "name" for t in tokens]
+
+
 def main():
     root = sys.argv[1] if len(sys.argv) > 1 else "."
     sources = [Source(root, p) for p in sorted(glob.glob(os.path.join(root, "crates/*/src/*.rt")))]
@@ -97,7 +114,7 @@ def main():
         for line, text in s.found(r"^ *(?:(?:Call|Edit|Ending|Record|Kind)::\w+|[A-Z]+)(?:\([^)]*\)| \{[^}]*\})? => \W*(?:Ok\()?(?:self\.|draft\.|\w+\()"):
             add("7 arms that choose a step", s, line, text)
 
-    twins = defaultdict(list)
+    twins = []
     together = defaultdict(list)
     clauses = defaultdict(list)
     for s in sources:
@@ -109,14 +126,12 @@ def main():
                     together[(a, b)].append("%s:%d %s" % (s.path, line, name))
             for c in said:
                 clauses[c[:30]].append("%s:%d %s" % (s.path, line, name))
-            # A function's twin differs in a type or a constant: compare names without their subject.
-            stem = re.sub(r"actors?|channels?|writer|reader|writes|reads|adds?|own|stray|keep|withdraw|not_before|pin\b", "*", name)
-            if "*" in stem:
-                twins[(s.path.split("/")[0], stem)].append("%s:%d %s" % (s.path, line, name))
-    for (_, stem), places in sorted(twins.items()):
-        if len(places) > 1:
-            for p in places:
-                found["2 functions whose names differ in their subject alone"].append("%s (%s)" % (p, stem))
+        for name, line, body in bodies(s):
+            twins.append(("%s:%d %s" % (s.path, line, name), shape(body)))
+    for i, (a, one) in enumerate(twins):
+        for b, other in twins[i + 1 :]:
+            if min(len(one), len(other)) >= 10 and SequenceMatcher(None, one, other, autojunk=False).ratio() >= 0.9:
+                found["2 pairs of functions of one shape"].append("%s ~ %s" % (a, b))
     for (a, b), places in sorted(together.items()):
         if len(places) >= 3:
             found["5 parameters of three functions or more"].append("%s, %s: %d, as %s" % (a, b, len(places), places[0]))
