@@ -28,7 +28,7 @@ fn add_actor(draft: &mut Draft, times: &[u32]) -> Result<usize, Fault>
         not_before: None,
         placement: Placement::Free,
     };
-    let answer = draft.add_actor(&ticket, actor);
+    let answer = draft.edit(&ticket, actor);
     match answer {
         Ok(_) => draft.keep(ticket).unwrap(),
         Err(_) => draft.withdraw(ticket).unwrap(),
@@ -49,7 +49,7 @@ fn show_elsewhere(draft: &mut Draft, other: &mut Draft, times: &[u32]) -> Result
         not_before: None,
         placement: Placement::Free,
     };
-    let answer = draft.add_actor(&ticket, actor);
+    let answer = draft.edit(&ticket, actor);
     other.withdraw(ticket).unwrap();
     answer
 }

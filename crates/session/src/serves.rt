@@ -14,6 +14,7 @@ use draft::draft::Draft;
 use draft::ticket::{Returned, Ticket};
 use rows::row::{NewActor, NewChannel};
 use std::alloc::{AllocError, Global};
+use table::edits::{CutActor, CutChannel};
 use table::storage::Rows;
 
 impl Session {
@@ -167,7 +168,7 @@ fn apply(draft: &mut Draft, ticket: &Ticket, edit: &Edit) -> Answer
                 placement: *placement,
             };
             draft
-                .add_actor(ticket, actor)
+                .edit(ticket, actor)
                 .map_or_else(Answer::Refused, Answer::Actor)
         }
         Edit::AddChannel {
@@ -185,14 +186,14 @@ fn apply(draft: &mut Draft, ticket: &Ticket, edit: &Edit) -> Answer
                 ceiling: *ceiling,
             };
             draft
-                .add_channel(ticket, channel)
+                .edit(ticket, channel)
                 .map_or_else(Answer::Refused, Answer::Channel)
         }
         Edit::CutActor(number) => draft
-            .cut_actor(ticket, *number)
+            .edit(ticket, CutActor(*number))
             .map_or_else(Answer::Refused, |()| Answer::Done),
         Edit::CutChannel(number) => draft
-            .cut_channel(ticket, *number)
+            .edit(ticket, CutChannel(*number))
             .map_or_else(Answer::Refused, |()| Answer::Done),
     }
 }

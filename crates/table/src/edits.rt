@@ -6,60 +6,83 @@ ghost use Rattle.rows.specs.Table.{names, renumbered_ends, add_actor, add_channe
 ghost use Rattle.rows.specs.Values.{channel_row, new_actor_row, new_channel_row};
 ghost use Rattle.table.specs.Tables.{table_of};
 
+use crate::edit::Edit;
 use crate::storage::{MOST_ACTORS, MOST_CHANNELS, Rows};
 use rows::fault::Fault;
 use rows::row::{Actor, Channel, NewActor, NewChannel};
 
-impl Rows {
-    // Adds an actor, which gets the next number.
-    pub fn add_actor(&mut self, actor: NewActor) -> Result<usize, Fault>
-        ensures { Does (add_actor (new_actor_row actor.entry)) (table_of self.old) (table_of self.new) result }
-    {
-        let number = self.actors.len();
+// A new actor gets the next number.
+impl Edit for NewActor<'_> {
+    type Answer = usize;
+
+    ghost step = { λ a. add_actor (new_actor_row a) };
+
+    fn make(self, rows: &mut Rows) -> Result<usize, Fault> {
+        let number = rows.actors.len();
         if number >= MOST_ACTORS {
             return Err(Fault::TableFull);
         }
-        let made = Actor::new(actor)?;
-        self.actors.push_reserved(made);
+        let actor = Actor::new(self)?;
+        rows.actors.push_reserved(actor);
         Ok(number)
     }
+}
 
-    // Adds a channel, which gets the next number.
-    pub fn add_channel(&mut self, channel: NewChannel) -> Result<usize, Fault>
-        ensures { Does (add_channel (new_channel_row channel.entry)) (table_of self.old) (table_of self.new) result }
-    {
-        let number = self.channels.len();
+// A new channel gets the next number.
+impl Edit for NewChannel<'_> {
+    type Answer = usize;
+
+    ghost step = { λ c. add_channel (new_channel_row c) };
+
+    fn make(self, rows: &mut Rows) -> Result<usize, Fault> {
+        let number = rows.channels.len();
         if number >= MOST_CHANNELS {
             return Err(Fault::TableFull);
         }
-        let made = Channel::new(&self.actors, channel)?;
-        self.channels.push_reserved(made);
+        let channel = Channel::new(&rows.actors, self)?;
+        rows.channels.push_reserved(channel);
         Ok(number)
     }
+}
 
-    // Cuts a channel: every later channel's number is one lower.
-    pub fn cut_channel(&mut self, number: usize) -> Result<(), Fault>
-        ensures { Does (cut_channel number) (table_of self.old) (table_of self.new) result }
-    {
-        if number >= self.channels.len() {
+// Cuts the channel of this number: every later channel's number is one lower.
+#[derive(Clone, Copy, Debug)]
+pub struct CutChannel(pub usize);
+
+impl Edit for CutChannel {
+    type Answer = ();
+
+    ghost step = { λ cut. cut_channel cut.0 };
+
+    fn make(self, rows: &mut Rows) -> Result<(), Fault> {
+        let CutChannel(number) = self;
+        if number >= rows.channels.len() {
             return Err(Fault::NoChannel);
         }
-        let _ = self.channels.remove(number);
+        let _ = rows.channels.remove(number);
         Ok(())
     }
+}
 
-    // Cuts an actor that no channel names: every later actor's number is one lower, in the channels too.
-    pub fn cut_actor(&mut self, number: usize) -> Result<(), Fault>
-        ensures { Does (cut_actor number) (table_of self.old) (table_of self.new) result }
-    {
-        if number >= self.actors.len() {
+// Cuts the actor of this number, which no channel names: every later actor's number is one lower, in the channels too.
+#[derive(Clone, Copy, Debug)]
+pub struct CutActor(pub usize);
+
+impl Edit for CutActor {
+    type Answer = ();
+
+    ghost step = { λ cut. cut_actor cut.0 };
+
+    fn make(self, rows: &mut Rows) -> Result<(), Fault> {
+        let CutActor(number) = self;
+        if number >= rows.actors.len() {
             return Err(Fault::NoActor);
         }
-        if !is_unused(&self.channels, number) {
+        if !is_unused(&rows.channels, number) {
             return Err(Fault::ActorInUse);
         }
-        let _ = self.actors.remove(number);
-        renumber(&mut self.channels, number);
+        let _ = rows.actors.remove(number);
+        renumber(&mut rows.channels, number);
         Ok(())
     }
 }

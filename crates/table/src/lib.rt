@@ -2,6 +2,7 @@
 
 #![tactic(auto)]
 
+pub mod edit;
 pub mod edits;
 pub mod reads;
 pub mod storage;

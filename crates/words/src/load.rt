@@ -75,7 +75,7 @@ fn add_actor(rows: &mut Rows, part: &[u32]) -> Result<usize, Fault>
     };
     let not_before = rest.given(Kind::NotBefore);
     let pin = rest.past(Kind::NotBefore).given(Kind::Pin);
-    rows.add_actor(NewActor {
+    rows.edit(NewActor {
         times: times.as_slice(),
         not_before,
         placement: Placement::from(pin),
@@ -96,7 +96,7 @@ fn add_channel(rows: &mut Rows, part: &[u32]) -> Result<usize, Fault>
         words: part,
         index: reads_end,
     };
-    rows.add_channel(NewChannel {
+    rows.edit(NewChannel {
         writer: ends.writer,
         reader: ends.reader,
         writes: writes.as_slice(),
