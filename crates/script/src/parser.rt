@@ -25,6 +25,7 @@ pub fn call(heap: Global, mark: u32, tokens: &[Token]) -> Result<Call, LineError
 fn read_call(heap: Global, mark: u32, line: &mut Line) -> Result<Call, LineError>
     ensures { Reads plain_call result (rest_of line.new) (call_rest mark (rest_of line.old)) }
 {
+    // By tries: where no word fits, none is passed over.
     if line.accept(Token::Open) {
         Ok(Call::Open)
     } else if line.accept(Token::Rows) {

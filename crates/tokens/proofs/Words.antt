@@ -8,6 +8,7 @@ use Rattle.std.specs.List.{slice_split, onto_first, before_first, position_or_le
 use Rattle.std.specs.Option.{unwrap_or}
 use Rattle.tokens.specs.declared.token.Token.{Token}
 use Rattle.tokens.specs.Tokens.{token_of}
+use Rattle.tokens.proofs.Lines.{onto_part, onto_byte}
 use Rattle.tokens.specs.Lines.{blank, with_word, tokens_from, tokens_of}
 
 abbrev pub comment : ℕ → Bool
@@ -20,18 +21,9 @@ some_byte w = not (length w == 0)
 abbrev pub tokens_all : List (List ℕ) → List Token
 tokens_all ws = map token_of (filter some_byte ws)
 
--- the word that was begun goes before the first
-abbrev onto_word : List ℕ → List (List ℕ) → List (List ℕ)
-onto_word w [] = w ∷ []
-onto_word w (p ∷ ps) = (w ++ p) ∷ ps
-
-onto_none : (ps : List (List ℕ)) → tokens_all (onto_word [] ps) ≡ tokens_all ps
+onto_none : (ps : List (List ℕ)) → tokens_all (onto_part [] ps) ≡ tokens_all ps
 onto_none [] = refl
 onto_none (p ∷ ps) = refl
-
-onto_letter : (w : List ℕ) (b : ℕ) (ps : List (List ℕ)) → onto_word (w ++ b ∷ []) ps ≡ onto_word w (onto_first b ps)
-onto_letter w b [] = refl
-onto_letter w b (p ∷ ps) = ap (λ x. x ∷ ps) (append_assoc w (b ∷ []) p)
 
 some_first : (b : ℕ) (w : List ℕ) → some_byte (b ∷ w) ≡ true
 some_first b w = search rules
@@ -55,19 +47,19 @@ cut_at true b n bs = refl
 cut_at false b n bs = let e : 1 + n ≡ suc n = omega arith in ap (λ k. slice_split blank (take k (b ∷ bs))) e
 
 one_byte : (t k : Bool) (before : List Token) (w : List ℕ) (b : ℕ) (bs : List ℕ) (ps : List (List ℕ))
-    → tokens_from (with_word before w) [] bs ≡ with_word before w ++ tokens_all (onto_word [] ps)
-    → tokens_from before (w ++ b ∷ []) bs ≡ before ++ tokens_all (onto_word (w ++ b ∷ []) ps)
+    → tokens_from (with_word before w) [] bs ≡ with_word before w ++ tokens_all (onto_part [] ps)
+    → tokens_from before (w ++ b ∷ []) bs ≡ before ++ tokens_all (onto_part (w ++ b ∷ []) ps)
     → cond t (with_word before w) (cond k (tokens_from (with_word before w) [] bs) (tokens_from before (w ++ b ∷ []) bs))
-    ≡ before ++ tokens_all (onto_word w (cond t ([] ∷ []) (cond k ([] ∷ ps) (onto_first b ps))))
+    ≡ before ++ tokens_all (onto_part w (cond t ([] ∷ []) (cond k ([] ∷ ps) (onto_first b ps))))
 one_byte true k before w b bs ps x y = last_word before w
 one_byte false true before w b bs ps x y = x ∙ ap (λ l. with_word before w ++ l) (onto_none ps) ∙ first_word before w ps
-one_byte false false before w b bs ps x y = y ∙ ap (λ l. before ++ tokens_all l) (onto_letter w b ps)
+one_byte false false before w b bs ps x y = y ∙ ap (λ l. before ++ tokens_all l) (onto_byte w b ps)
 
-cut_from : (before : List Token) (w line : List ℕ) → tokens_from before w line ≡ before ++ tokens_all (onto_word w (slice_split blank (before_first comment line)))
+cut_from : (before : List Token) (w line : List ℕ) → tokens_from before w line ≡ before ++ tokens_all (onto_part w (slice_split blank (before_first comment line)))
 cut_from before w [] = last_word before w
 cut_from before w (b ∷ bs) =
     one_byte (comment b) (blank b) before w b bs (slice_split blank (before_first comment bs)) (cut_from (with_word before w) [] bs) (cut_from before (w ++ b ∷ []) bs)
-    ∙ ap (λ ps. before ++ tokens_all (onto_word w ps)) (sym (cut_at (comment b) b (position_or_len comment bs) bs))
+    ∙ ap (λ ps. before ++ tokens_all (onto_part w ps)) (sym (cut_at (comment b) b (position_or_len comment bs) bs))
 
 -- the place of the sign, or the line's length
 end_is : (line : List ℕ) (e : ℕ) (p : Option ℕ) → p ≡ cond (ltb (position_or_len comment line) (length line)) (Some (position_or_len comment line)) None

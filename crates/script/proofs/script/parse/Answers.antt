@@ -4,9 +4,10 @@ use Rattle.std.proofs.lemmas.Iterator.Splits.{YieldsList-from_slice_split}
 use Rattle.std.proofs.lemmas.List.{length_push}
 use Rattle.std.proofs.lemmas.Result.{err_from_is_err_and}
 use Rattle.tokens.specs.Lines.{lines_of}
+use Rattle.tokens.proofs.Lines.{feed}
 use Rattle.script.specs.Scripts.{lines_read}
 use Rattle.script.specs.Whole.{sofar_of, FailsAt}
-use Rattle.script.proofs.Turns.{feed, at_text_line, at_text_end, then_ok, then_fails}
+use Rattle.script.proofs.Turns.{at_text_line, at_text_end, then_ok, then_fails}
 use Rattle.script.proofs.script.parse.Goals as goal
 
 pub loop-i-preserved : goal.loop-i-preserved

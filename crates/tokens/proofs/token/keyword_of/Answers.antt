@@ -3,6 +3,7 @@ use Rattle.std.proofs.lemmas.Slice.Eq.{text_from_reads}
 use Rattle.tokens.proofs.Keywords.{no_call_word}
 use Rattle.tokens.proofs.token.keyword_of.Goals as goal
 
+-- `keep` needs no answer, and has none: a must-fail edit changes its arm's name
 pub returns-in-mark : goal.returns-in-mark
 returns-in-mark c = grind (arith, text_from_reads c.args.word.now (codes "mark"))
 
