@@ -15,6 +15,6 @@ returns c =
     let from : c.content_of-count.result + 1 - 1 ≡ suc n - 1 = omega arith in
     let times = c.as_slice.ensures.value ∙ c.contents-times.ensures ∙ ap (λ m. map content_of (take m (drop 1 part))) from in
     let pin = c.given-pin.ensures ∙ ap (λ ws. given ws c.past.result.index 5) c.past.ensures.same ∙ ap (λ i. given part i 5) c.past.ensures.value in
-    subst (λ a. Does (add_actor a) (table_of c.args.rows.now) (table_of c.add_actor.new.self) c.add_actor.result)
+    subst (λ a. Does (add_actor a) (table_of c.args.rows.now) (table_of c.edit.new.self) c.edit.result)
     (actor_made part c.content_of-count.result _ _ c.given-pin.result _ count times c.given-not_before.ensures pin c.from.ensures)
-    c.add_actor.ensures
+    c.edit.ensures
