@@ -12,7 +12,7 @@ told_of (Err f) count = shown_load f
 abbrev pub pair_text : ℕ × ℕ → List ℕ
 pair_text p = decimal p.0 ++ (codes "@" ++ decimal p.1)
 
--- the number of words, or a number and a place
-abbrev pub answer_text : Result ℕ (ℕ × ℕ) → List ℕ
-answer_text (Ok count) = pair_text (0, count)
-answer_text (Err p) = pair_text p
+-- the same of the answer to any call that is granted with a number of words
+abbrev pub answer_text : {F : Type 0} → (F → ℕ × ℕ) → Result ℕ F → List ℕ
+answer_text shown (Ok count) = pair_text (0, count)
+answer_text shown (Err f) = pair_text (shown f)

@@ -10,6 +10,7 @@ ghost use Rattle.table.specs.Tables.{table_of};
 ghost use Rattle.words.specs.Loads.{loading, table_read};
 ghost use Rattle.damaged_tables.specs.Told.{told_of, answer_text, pair_text};
 
+use rows::fault::Refusal;
 use std::alloc::{AllocError, Global};
 use std::fmt;
 use table::storage::Rows;
@@ -65,15 +66,15 @@ fn told(rows: &mut Rows, words: &[u32]) -> Result<usize, LoadFault>
 
 // The number of words that are loaded or saved, or the number and the place of the refusal.
 #[derive(Clone, Copy)]
-struct Answer(Result<usize, (u32, usize)>);
+struct Answer<F: Refusal>(Result<usize, F>);
 
-impl fmt::Display for Answer {
-    ghost output = { λ answer. Some (answer_text answer.0) };
+impl<F: Refusal> fmt::Display for Answer<F> {
+    ghost output = { λ answer. Some (answer_text F.number_and_place answer.0) };
 
     fn fmt<W: fmt::Write>(&self, f: &mut fmt::Formatter<W>) -> fmt::Result {
-        let (number, place) = match self.0 {
-            Ok(count) => (0, count),
-            Err(refusal) => refusal,
+        let (number, place) = match &self.0 {
+            Ok(count) => (0, *count),
+            Err(refusal) => (refusal.number(), refusal.place()),
         };
         write!(f, "{number}@{place}")
     }
@@ -99,10 +100,7 @@ impl Trials {
         ensures { OnOk result
             (string_bytes self.new.text ≡ string_bytes self.old.text ++ 32 ∷ pair_text (told_of (table_read words.now) (length words.now))) }
     {
-        let answer = Answer(told(&mut self.rows, words).map_err(|fault| (
-            fault.number(),
-            fault.place(),
-        )));
+        let answer = Answer(told(&mut self.rows, words));
         write!(self.text, " {answer}")
     }
 
@@ -208,10 +206,7 @@ impl Trials {
         self.show(&TABLE)?;
         for space in TABLE.len() - 1..=TABLE.len() + 1 {
             let mut words = [9; ROOM];
-            let answer = Answer(save(&self.rows, &mut words[..space]).map_err(|fault| (
-                fault.number(),
-                fault.place(),
-            )));
+            let answer = Answer(save(&self.rows, &mut words[..space]));
             let (first, last) = (words[0], words[TABLE.len()]);
             write!(self.text, " {answer} first {first} last {last}")?;
         }

@@ -2,6 +2,8 @@
 ghost use Rattle.std.specs.Prelude.{◌≡◌};
 ghost use Rattle.word_save.specs.Faults.{shown_save};
 
+use rows::fault::Refusal;
+
 // Why rows are not saved, each case with the number by which the refusal is known.
 #[derive(Clone, Copy, PartialEq, Eq, Debug)]
 pub enum SaveFault {
@@ -9,17 +11,15 @@ pub enum SaveFault {
     SpaceShort = 27,
 }
 
-impl SaveFault {
-    pub fn number(self) -> u32
-        ensures { result ≡ (shown_save self).0 }
-    {
-        self as u32
+impl Refusal for SaveFault {
+    ghost number_and_place = { shown_save };
+
+    fn number(&self) -> u32 {
+        *self as u32
     }
 
-    // The place that the refusal names: 0, since it names none.
-    pub fn place(self) -> usize
-        ensures { result ≡ (shown_save self).1 }
-    {
+    // It names none.
+    fn place(&self) -> usize {
         0
     }
 }

@@ -3,7 +3,7 @@ ghost use Rattle.std.specs.Prelude.{◌≡◌};
 ghost use Rattle.words.specs.declared.fault.LoadFault.TheVariants.{Word};
 ghost use Rattle.words.specs.Faults.{shown_word, shown_load};
 
-use rows::fault::Fault;
+use rows::fault::{Fault, Refusal};
 
 // What is wrong with a table of words, each case with the place of the first offending word.
 #[derive(Clone, Copy, PartialEq, Eq, Debug)]
@@ -18,11 +18,10 @@ pub enum WordFault {
     WrongEnd(usize),
 }
 
-impl WordFault {
-    // The number by which the refusal is known.
-    pub(crate) fn number(self) -> u32
-        ensures { result ≡ (shown_word self).0 }
-    {
+impl Refusal for WordFault {
+    ghost number_and_place = { shown_word };
+
+    fn number(&self) -> u32 {
         match self {
             WordFault::Missing(_) => 30,
             WordFault::UnknownKind(_) => 31,
@@ -32,14 +31,12 @@ impl WordFault {
     }
 
     // The place of the first offending word.
-    pub(crate) fn place(self) -> usize
-        ensures { result ≡ (shown_word self).1 }
-    {
+    fn place(&self) -> usize {
         match self {
             WordFault::Missing(place)
             | WordFault::UnknownKind(place)
             | WordFault::Misplaced(place)
-            | WordFault::WrongEnd(place) => place,
+            | WordFault::WrongEnd(place) => *place,
         }
     }
 }
@@ -57,10 +54,10 @@ pub enum LoadFault {
     Row { head: usize, fault: Fault },
 }
 
-impl LoadFault {
-    pub fn number(self) -> u32
-        ensures { result ≡ (shown_load self).0 }
-    {
+impl Refusal for LoadFault {
+    ghost number_and_place = { shown_load };
+
+    fn number(&self) -> u32 {
         match self {
             LoadFault::TicketRefused => 2,
             LoadFault::HasRows => 28,
@@ -70,13 +67,11 @@ impl LoadFault {
     }
 
     // The place of the first offending word, or of the head of the refused row.
-    pub fn place(self) -> usize
-        ensures { result ≡ (shown_load self).1 }
-    {
+    fn place(&self) -> usize {
         match self {
             LoadFault::TicketRefused | LoadFault::HasRows => 0,
             LoadFault::Word(fault) => fault.place(),
-            LoadFault::Row { head, .. } => head,
+            LoadFault::Row { head, .. } => *head,
         }
     }
 }
