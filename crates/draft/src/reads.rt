@@ -1,7 +1,7 @@
 // A draft read: its mark, whether a change is open, and its rows as edited so far.
-ghost use Rattle.std.specs.Prelude.{◌≡◌, Some, None, MatchResult, slice_get};
+ghost use Rattle.std.specs.Prelude.{◌≡◌};
 ghost use Rattle.rows.specs.declared.fault.Fault.TheVariants.{NoActor, NoChannel};
-ghost use Rattle.table.specs.Tables.{table_of};
+ghost use Rattle.table.specs.Tables.{table_of, RowAt};
 ghost use Rattle.rows.specs.Values.{actor_row, channel_row};
 ghost use Rattle.draft.specs.Drafts.{book_of};
 
@@ -30,16 +30,16 @@ impl Draft {
         &self.working
     }
 
-    // The actor of this number.
+    // The actor of this number. It and `channel` are a line each: a trait of rows would take more.
     pub fn actor(&self, number: usize) -> Result<Actor, Fault>
-        ensures { MatchResult result (λ a. slice_get (book_of self.now).working.actors number ≡ Some (actor_row a)) (λ f. (slice_get (book_of self.now).working.actors number ≡ None) × (f ≡ NoActor)) }
+        ensures { RowAt actor_row (book_of self.now).working.actors number NoActor result }
     {
         self.working.actor(number)
     }
 
     // The channel of this number.
     pub fn channel(&self, number: usize) -> Result<Channel, Fault>
-        ensures { MatchResult result (λ c. slice_get (book_of self.now).working.channels number ≡ Some (channel_row c)) (λ f. (slice_get (book_of self.now).working.channels number ≡ None) × (f ≡ NoChannel)) }
+        ensures { RowAt channel_row (book_of self.now).working.channels number NoChannel result }
     {
         self.working.channel(number)
     }

@@ -44,6 +44,7 @@ pub struct Returned {
     fault: Fault,
 }
 
+// By hand, since a derived `Drop` could not ask that the ticket is spent.
 impl Drop for Returned {
     fn drop(self)
         requires { self.ticket.spent ≡ true }

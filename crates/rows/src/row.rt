@@ -1,7 +1,8 @@
 // One row: an actor with its phase times, or a channel with its rates.
 ghost use Rattle.std.specs.Prelude.{◌≡◌, ◌≤◌, length};
 
-// Up to eight numbers, one for each phase of an actor: times, or rates of a channel's end.
+// Up to eight numbers, one for each phase of an actor: times, or rates of a channel's end. An array with its length: rows
+// are copied, which a `Vec` does not do without memory, nor an `ArrayVec` at all.
 #[derive(Clone, Copy)]
 pub struct Phases {
     pub(crate) count: usize,
@@ -10,7 +11,7 @@ pub struct Phases {
     ghost whole: { length values ≡ 8 },
 }
 
-// Where an actor may run: on any processor, or on the one named.
+// Where an actor may run: on any processor, or on the one named. An enum and no `Option`, by a rule of this project.
 #[derive(Clone, Copy, PartialEq, Eq, Debug)]
 pub enum Placement {
     Free,

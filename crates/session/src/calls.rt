@@ -3,6 +3,8 @@ use rows::fault::Fault;
 use rows::row::Placement;
 use table::storage::Rows;
 
+// Calls are cases and no closures: a script is read into them, and promises speak of a list of them.
+
 // An edit of the rows.
 #[derive(Drop)]
 pub enum Edit {

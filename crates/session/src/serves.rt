@@ -61,7 +61,8 @@ impl Session {
         }
     }
 
-    // Makes an edit, shown the ticket in hand or else a stray one.
+    // Makes an edit, shown the ticket in hand or else a stray one. It and `end` choose alike, and no function serves both: an
+    // edit borrows its ticket, and an end takes it.
     fn edit(&mut self, heap: Global, shown: u32, edit: &Edit) -> Result<Answer, AllocError>
         ensures served { Serves (editing shown (edit_step edit.now)) (session_book self.old) (session_book self.new) result }
         ensures succeeds { accepts (session_book self.old) shown ≡ true → is_ok result ≡ true }

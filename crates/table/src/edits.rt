@@ -11,7 +11,8 @@ use crate::storage::{MOST_ACTORS, MOST_CHANNELS, Rows};
 use rows::fault::Fault;
 use rows::row::{Actor, Channel, NewActor, NewChannel};
 
-// A new actor gets the next number.
+// A new actor gets the next number. What it shares with a new channel is the library's `push_reserved`: the rest differs in
+// the list, its limit and what `new` looks at, which would all be parameters of a function for both.
 impl Edit for NewActor<'_> {
     type Answer = usize;
 

@@ -1,8 +1,8 @@
 // A table made, read and copied.
-ghost use Rattle.std.specs.Prelude.{◌≡◌, ◌≤◌, map, length, IfOk, Some, None, vec_capacity, MatchResult, slice_get};
+ghost use Rattle.std.specs.Prelude.{◌≡◌, ◌≤◌, map, length, IfOk, vec_capacity};
 ghost use Rattle.rows.specs.declared.fault.Fault.TheVariants.{NoActor, NoChannel};
 ghost use Rattle.rows.specs.Table.{empty_table};
-ghost use Rattle.table.specs.Tables.{table_of};
+ghost use Rattle.table.specs.Tables.{table_of, RowAt};
 ghost use Rattle.rows.specs.Values.{actor_row, channel_row};
 
 use crate::storage::{MOST_ACTORS, MOST_CHANNELS, Rows};
@@ -32,16 +32,16 @@ impl Rows {
         &self.channels
     }
 
-    // The actor of this number.
+    // The actor of this number. It and `channel` are a line each: a trait of rows would take more.
     pub fn actor(&self, number: usize) -> Result<Actor, Fault>
-        ensures { MatchResult result (λ a. slice_get (table_of self.now).actors number ≡ Some (actor_row a)) (λ f. (slice_get (table_of self.now).actors number ≡ None) × (f ≡ NoActor)) }
+        ensures { RowAt actor_row (table_of self.now).actors number NoActor result }
     {
         self.actors.get(number).copied().ok_or(Fault::NoActor)
     }
 
     // The channel of this number.
     pub fn channel(&self, number: usize) -> Result<Channel, Fault>
-        ensures { MatchResult result (λ c. slice_get (table_of self.now).channels number ≡ Some (channel_row c)) (λ f. (slice_get (table_of self.now).channels number ≡ None) × (f ≡ NoChannel)) }
+        ensures { RowAt channel_row (table_of self.now).channels number NoChannel result }
     {
         self.channels.get(number).copied().ok_or(Fault::NoChannel)
     }

@@ -18,6 +18,7 @@ pub enum WordFault {
     WrongEnd(usize),
 }
 
+// By a match: cases that hold a place have no numbers of their own.
 impl Refusal for WordFault {
     ghost number_and_place = { shown_word };
 
