@@ -38,22 +38,11 @@ impl Ticket {
     }
 }
 
-// A refusal of keep or withdraw, with the ticket that it gives back.
+// A refusal of keep or withdraw, with the ticket that it gives back. Its drop asks what the ticket's asks.
+#[derive(Drop)]
 pub struct Returned {
     ticket: Ticket,
     fault: Fault,
-}
-
-// By hand, since a derived `Drop` could not ask that the ticket is spent.
-impl Drop for Returned {
-    fn drop(self)
-        requires { self.ticket.spent ≡ true }
-    {
-        let Returned {
-            ticket: _,
-            fault: _,
-        } = self;
-    }
 }
 
 impl Returned {
