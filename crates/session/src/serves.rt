@@ -53,10 +53,10 @@ impl Session {
         ensures { Tells (saying (λ _. done) opening) (session_book self.old) (session_book self.new) (said_of result) }
     {
         match self.draft.open() {
-            Ok(ticket) => match self.hand.replace(ticket) {
-                None => Answer::Done,
-                Some(_) => unreachable!(),
-            },
+            Ok(ticket) => {
+                self.hand = Some(ticket);
+                Answer::Done
+            }
             Err(fault) => Answer::Refused(fault),
         }
     }
@@ -118,10 +118,8 @@ impl Session {
         ensures { Tells (saying (λ _. done) (end_step ending (session_book self.old).mark)) (session_book self.old) (session_book self.new) (said_of result) }
     {
         let ticket = self.hand.take().unwrap();
-        match finish(&mut self.draft, ticket, ending) {
-            Ok(()) => Answer::Done,
-            Err(_) => unreachable!(),
-        }
+        finish(&mut self.draft, ticket, ending).unwrap();
+        Answer::Done
     }
 
     fn end_with_stray(
@@ -134,14 +132,10 @@ impl Session {
         ensures { Serves (saying (λ _. done) (end_step ending shown)) (session_book self.old) (session_book self.new) result }
     {
         let (other, ticket) = stray(heap, shown)?;
-        match finish(&mut self.draft, ticket, ending) {
-            Ok(()) => unreachable!(),
-            Err(returned) => {
-                let fault = returned.fault();
-                hand_in(other, returned.into_ticket());
-                Ok(Answer::Refused(fault))
-            }
-        }
+        let returned = finish(&mut self.draft, ticket, ending).unwrap_err();
+        let fault = returned.fault();
+        hand_in(other, returned.into_ticket());
+        Ok(Answer::Refused(fault))
     }
 
     fn copy_rows(&self, heap: Global) -> Result<Answer, AllocError>
