@@ -92,18 +92,25 @@ def main():
             cases = re.findall(r"^    \w+[^,\n]*", s.text[begin:end], re.M)
             if len(cases) == 2 and any("(" in c or "{" in c for c in cases):
                 add("1 enums of two cases, one with a value", s, s.line(m.start()), m.group(0).strip())
-        for line, text in s.found(r"^    (?:pub(?:\(crate\))? )?\w+: bool,$"):
-            add("1 flags in structs", s, line, text)
-        for line, text in s.found(r"^(?:pub(?:\(crate\))? )?const \w+: (?:u32|u8|usize) = \d+;$"):
-            add("1 numbers for kinds, as constants", s, line, text)
-        for m in re.finditer(r"^ *(?:\w+::\w+(?:\([^)]*\))?|[\w:]+ \{[^}]*\}) => \d[^,\n]*,$", s.text, re.M):
-            add("1 numbers for cases, by a match", s, s.line(m.start()), m.group(0).strip())
+        for m in re.finditer(r"^(?:pub(?:\(crate\))? )?struct \w+[^{;]*\{", s.text, re.M):
+            begin, end = body_at(s.text, m.start())
+            for flag in re.finditer(r"^    (?:pub(?:\(crate\))? )?\w+: bool,$", s.text[begin:end], re.M):
+                add("1 flags in structs", s, s.line(begin + flag.start()), flag.group(0).strip())
+        for m in re.finditer(r"(?:^(?:pub(?:\(crate\))? )?const \w+: \w+ = \d+;\n\n?){3,}", s.text, re.M):
+            add("1 numbers for kinds, as runs of constants", s, s.line(m.start()), m.group(0).split("\n")[0] + " ..")
+        for name, line, body in bodies(s):
+            if re.search(r"^ *(?:\w+::\w+(?:\([^)]*\)| \{[^}]*\})?)(?: \| .*)? => \d[^,\n]*,$", body, re.M):
+                add("1 functions that number the cases of an enum by a match", s, line, name)
         for line, text in s.found(r"-> Option<Fault>|-> \(u32, usize\)"):
             add("1 refusals without a Result", s, line, text)
-        for line, text in s.found(r"Err\(\w+\) => (?:return )?(?:Err|Answer::Refused)\(|None => (?:return )?Err\(|Err\(_\) => (?:Err\(AllocError\)|unreachable)|None => (?:return None|unreachable)|Some\(_\) => unreachable|Ok\(\(\)\) => unreachable|return None;|Err\(error\) => Ok\(|^ *return Err\(AllocError|is_err\(\)"):
-            add("1 results passed on by hand", s, line, text)
-        for line, text in s.found(r"^ *while |\.enumerate\(\)| \+= 1;|\.wrapping_mul\(2\)|for \w+ in \w+\.\.|for _ in \w+\.\.| \+= \w+\.len\(\);"):
+        for line, text in s.found(r"Err\(\w+\) => (?:return )?(?:Err|Answer::Refused)\(|None => (?:return )?Err\(|=> unreachable|None => return None|^ *return Err\(AllocError|is_err\(\)"):
+            add("1 results passed on by a match", s, line, text)
+        for line, text in s.found(r"^ *while |\.enumerate\(\)| \+= 1;|\.wrapping_mul\(2\)| \+= \w+\.len\(\);"):
             add("3 loops by an index", s, line, text)
+        for m in re.finditer(r"^ *for (\w+) in [^\n]*\.\.[^\n]*\{$", s.text, re.M):
+            begin, end = body_at(s.text, m.start())
+            if re.search(r"\[[^\]]*\b%s\b" % m.group(1), s.text[begin:end]):
+                add("3 loops by an index", s, s.line(m.start()), m.group(0).strip())
         for name, line, _, _ in functions(s):
             if re.fullmatch(r"push_\w+|tell|show|name_of|is|place|pin|from_pin|pin_of|placement_of|placed|keyword_of|part_word_of|number_of|is_word|with_digit|told", name):
                 add("4 equality, conversion and printing by functions", s, line, name)

@@ -122,29 +122,35 @@ impl Trials {
         self.text.push_str("\n")
     }
 
-    // Each kind in each place.
-    fn other_kinds(&mut self) -> Result<(), AllocError> {
+    // A line for each place: the table with the word there changed in so many ways.
+    fn each_place<F: Fn(u32, u32) -> u32>(
+        &mut self,
+        name: &str,
+        ways: u32,
+        change: F,
+    ) -> Result<(), AllocError>
+        requires { F.IsAlwaysCallable change }
+    {
         for place in 0..TABLE.len() {
-            self.text.push_str("kinds")?;
-            for kind in 0..16 {
-                self.show_damaged(|words| words[place] = kind * CONTENTS
-                    + words[place] % CONTENTS)?;
+            self.text.push_str(name)?;
+            for way in 0..ways {
+                self.show_damaged(|words| words[place] = change(words[place], way))?;
             }
             self.text.push_str("\n")?;
         }
         Ok(())
     }
 
+    // Each kind in each place.
+    fn other_kinds(&mut self) -> Result<(), AllocError> {
+        self.each_place("kinds", 16, |word, kind| {
+            kind % 16 * CONTENTS + word % CONTENTS
+        })
+    }
+
     // Each bit of each content turned.
     fn turned_bits(&mut self) -> Result<(), AllocError> {
-        for place in 0..TABLE.len() {
-            self.text.push_str("bits")?;
-            for bit in 0..28u32 {
-                self.show_damaged(|words| words[place] ^= 1 << bit)?;
-            }
-            self.text.push_str("\n")?;
-        }
-        Ok(())
+        self.each_place("bits", 28, |word, bit| word ^ (1 << (bit % 28)))
     }
 
     // Each word one lower, and one higher.
