@@ -14,6 +14,13 @@ use draft::draft::Draft;
 use rows::fault::Fault;
 use rows::row::{NewActor, Placement};
 
+// An actor that may run on any processor, from tick 0 on.
+const FREE: NewActor<'static> = NewActor {
+    times: &[],
+    not_before: None,
+    placement: Placement::Free,
+};
+
 // Adds a free actor under a change of its own. Where the row is refused, the change is withdrawn.
 fn add_actor(draft: &mut Draft, times: &[u32]) -> Result<usize, Fault>
     ensures answered { (book_of draft.old).changing ≡ false → Does (add_actor (actor_with times.now None Free)) (book_of draft.old).standing (book_of draft.new).standing result }
@@ -23,12 +30,7 @@ fn add_actor(draft: &mut Draft, times: &[u32]) -> Result<usize, Fault>
         (λ _. book_of draft.new ≡ book_of draft.old) }
 {
     let ticket = draft.open()?;
-    let actor = NewActor {
-        times,
-        not_before: None,
-        placement: Placement::Free,
-    };
-    let answer = draft.edit(&ticket, actor);
+    let answer = draft.edit(&ticket, NewActor { times, ..FREE });
     match answer {
         Ok(_) => draft.keep(ticket).unwrap(),
         Err(_) => draft.withdraw(ticket).unwrap(),
@@ -44,12 +46,7 @@ fn show_elsewhere(draft: &mut Draft, other: &mut Draft, times: &[u32]) -> Result
     ensures undone { (book_of other.new).standing ≡ (book_of other.old).standing }
 {
     let ticket = other.open()?;
-    let actor = NewActor {
-        times,
-        not_before: None,
-        placement: Placement::Free,
-    };
-    let answer = draft.edit(&ticket, actor);
+    let answer = draft.edit(&ticket, NewActor { times, ..FREE });
     other.withdraw(ticket).unwrap();
     answer
 }
