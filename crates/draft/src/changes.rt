@@ -60,7 +60,7 @@ impl Draft {
         }
     }
 
-    // Gives the ticket back, with the refusal where it is not accepted.
+    // Gives the ticket back, with the refusal where it is not accepted. By a match: the ticket goes into either answer.
     pub(crate) fn accept(&self, ticket: Ticket) -> Result<Ticket, Returned>
         ensures { MatchResult result
             (λ t. (accepts (book_of self.now) ticket.mark ≡ true) × (t ≡ ticket))

@@ -36,7 +36,7 @@ fn padded(numbers: &[u32]) -> [u32; 8]
 }
 
 impl Placement {
-    // The processor that the actor is pinned to, if it is.
+    // The processor that the actor is pinned to, if it is. A method, which reads as what it gives, and no `From`.
     pub fn pin(self) -> Option<u32>
         ensures { result ≡ pin_of self }
     {

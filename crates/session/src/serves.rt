@@ -48,7 +48,7 @@ impl Session {
         }
     }
 
-    // Opens a change, and takes its ticket in hand.
+    // Opens a change, and takes its ticket in hand. By a match: of what a closure puts into the hand, a proof knows nothing.
     fn open(&mut self) -> Answer
         ensures { Tells (saying (λ _. done) opening) (session_book self.old) (session_book self.new) (said_of result) }
     {

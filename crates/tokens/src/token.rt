@@ -29,7 +29,7 @@ pub enum Token {
 }
 
 impl Token {
-    // The two tokens are the same.
+    // The two tokens are the same: `==`, with a contract in the words of the grammar.
     pub fn is(self, other: Token) -> bool
         ensures { result ≡ same self other }
     {
@@ -86,7 +86,7 @@ impl fmt::Display for Token {
     }
 }
 
-// The keyword that a word is, a call's first.
+// The keyword that a word is, a call's first. By its bytes, since words are read from bytes that may be no text.
 fn keyword_of(word: &[u8]) -> Token
     ensures { result ≡ call_word word.now }
 {

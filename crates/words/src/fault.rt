@@ -55,6 +55,7 @@ pub enum LoadFault {
     Row { head: usize, fault: Fault },
 }
 
+// By a match, as above.
 impl Refusal for LoadFault {
     ghost number_and_place = { shown_load };
 
