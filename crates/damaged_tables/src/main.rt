@@ -221,8 +221,7 @@ impl Trials {
 }
 
 // A table of so many actors and channels, each of so many phases, with every part that a row may have where it has eight.
-fn regular(heap: Global, actors: u32, channels: u32, phases: u8) -> Result<Vec<u32>, AllocError> {
-    let phases = u32::from(phases);
+fn regular(heap: Global, actors: u32, channels: u32, phases: u32) -> Result<Vec<u32>, AllocError> {
     let mut words = Vec::new(heap);
     for _ in 0..actors {
         words.push(word(Kind::Actor, phases))?;
@@ -235,8 +234,9 @@ fn regular(heap: Global, actors: u32, channels: u32, phases: u8) -> Result<Vec<u
         }
     }
     for _ in 0..channels {
-        words.push(word(Kind::Channel, 0x100 | phases * 0x11_0000))?;
-        for _ in 0..2 * phases {
+        words.push(word(Kind::Channel, 0x100 | phases.wrapping_mul(0x11_0000)))?;
+        for _ in 0..phases {
+            words.push(word(Kind::Number, 1))?;
             words.push(word(Kind::Number, 1))?;
         }
         if phases == 8 {
