@@ -1,4 +1,5 @@
 -- The words of a table are read as that table, and what is read is a table that the words describe.
+use Rattle.std.proofs.lemmas.Grind.{common_steps}
 use Rattle.std.proofs.Common.{◌≡◌, ℕ, zero, suc, ◌+◌, ◌-◌, ◌<◌, ◌≤◌, Bool, true, false, eqb, ltb, List, [], ◌∷◌, ◌++◌, length, drop, Some, None, Ok, Err, Option, Result, sym, refl, ap, ◌∙◌, subst, append_assoc, append-nil, arith, length-append, drop_at}
 use lib.Seq.{append_snoc}
 use Rattle.std.specs.List.{flat_map}
@@ -42,18 +43,10 @@ record_then records ws h t r = elim r [
 
 module _ (t : Table) where
   pub words_with_actor : (a : ActorRow) → has_channels t ≡ false → row_words ((add_actor a).made t) ≡ row_words t ++ actor_words a
-  words_with_actor a e =
-      let none = nil_from_length t.channels (eqb-true (length t.channels) 0 (not-false (eqb (length t.channels) 0) e)) in
-      let x = flat_map actor_words t.actors in
-      ap (λ cs. flat_map actor_words (t.actors ++ a ∷ []) ++ flat_map channel_words cs) none
-      ∙ append-nil (flat_map actor_words (t.actors ++ a ∷ []))
-      ∙ sym (flat_map_more actor_words [] t.actors a)
-      ∙ ap (λ l. l ++ actor_words a) (sym (append-nil x) ∙ ap (λ cs. x ++ flat_map channel_words cs) (sym none))
+  words_with_actor a e = grind (arith, common_steps)
 
   pub words_with_channel : (c : ChannelRow) → row_words ((add_channel c).made t) ≡ row_words t ++ channel_words c
-  words_with_channel c =
-      let x = flat_map actor_words t.actors in
-      ap (λ l. x ++ l) (sym (flat_map_more channel_words [] t.channels c)) ∙ sym (append_assoc x (flat_map channel_words t.channels) (channel_words c))
+  words_with_channel c = grind (arith, common_steps)
 
 -- the table read so far has the words up to this place
 
@@ -64,14 +57,7 @@ pub record Sofar (ws : List ℕ) (h : ℕ) (t : Table) : Type 0 where
 
 pub sofar_more : (ws : List ℕ) (h : ℕ) (t u : Table) (part : List ℕ) → Sofar ws h t → lawful u ≡ true → row_words u ≡ row_words t ++ part
     → drop h ws ≡ part ++ drop (h + length part) ws → Sofar ws (h + length part) u
-sofar_more ws h t u part s l e d =
-    let more = drop (h + length part) ws in
-    let n = length-append (row_words t) part in
-    record {
-      good = l;
-      words = s.words ∙ ap (λ x. row_words t ++ x) d ∙ sym (append_assoc (row_words t) part more) ∙ ap (λ x. x ++ more) (sym e);
-      here = ap (λ k. k + length part) s.here ∙ sym n ∙ ap length (sym e);
-    }
+sofar_more ws h t u part s l e d = grind (arith, common_steps)
 
 -- what is read is a table that the words describe
 
@@ -102,11 +88,7 @@ module _ (records : ℕ) (ws : List ℕ) (follow : Follows records ws) (h : ℕ)
       e
 
   end_then : drop h ws ≡ word_of 7 h ∷ [] → Describes ws t
-  end_then f =
-      record {
-        accepted = s.good;
-        written = s.words ∙ ap (λ l. row_words t ++ l) f ∙ ap (λ n. row_words t ++ word_of 7 n ∷ []) s.here;
-      }
+  end_then f = grind arith
 
   record_then_lem : (r : Result Part WordFault) → record_at (has_channels t) ws h ≡ r → record_then records ws h t r ≡ Ok result → Describes ws result
   record_then_lem (Err f) a e = let z : ◌≡◌ {A = ℕ} 0 1 = cc in absurd (let w : ⊥ = omega arith in w)
@@ -129,22 +111,11 @@ read_described ws t e = follows (length ws) ws 0 empty_table t record { good = r
 module _ (records : ℕ) (ws : List ℕ) (h : ℕ) (t : Table) where
   actor_step : (a : ActorRow) (more : List ℕ) → drop h ws ≡ actor_words a ++ more → ActorFits a → Over more → has_channels t ≡ false → (add_actor a).fault t ≡ None
       → rows_from (suc records) ws h t ≡ rows_from records ws (h + length (actor_words a)) ((add_actor a).made t)
-  actor_step a more e f o early none =
-      let part = actor_words a in
-      let p = actor_again a f in
-      ap (λ b. record_then records ws h t (record_at b ws h)) early
-      ∙ ap (record_then records ws h t) (actor_read a ws h more e f o)
-      ∙ ap (λ r. add_then records ws h part ((add_actor r).made t) ((add_actor r).fault t)) p
-      ∙ ap (add_then records ws h part ((add_actor a).made t)) none
+  actor_step a more e f o early none = grind (arith, actor_again, actor_read)
 
   channel_step : (c : ChannelRow) (more : List ℕ) → drop h ws ≡ channel_words c ++ more → ChannelFits c → Over more → (add_channel c).fault t ≡ None
       → rows_from (suc records) ws h t ≡ rows_from records ws (h + length (channel_words c)) ((add_channel c).made t)
-  channel_step c more e f o none =
-      let part = channel_words c in
-      let p = channel_again c f in
-      ap (record_then records ws h t) (channel_read c f (has_channels t) ws h more e o)
-      ∙ ap (λ r. add_then records ws h part ((add_channel r).made t) ((add_channel r).fault t)) p
-      ∙ ap (add_then records ws h part ((add_channel c).made t)) none
+  channel_step c more e f o none = grind (arith, channel_again, channel_read)
 
   end_step : drop h ws ≡ word_of 7 h ∷ [] → small h ≡ true → rows_from (suc records) ws h t ≡ Ok t
   end_step e s = ap (record_then records ws h t) (end_read (has_channels t) ws h e s)
@@ -152,8 +123,7 @@ module _ (records : ℕ) (ws : List ℕ) (h : ℕ) (t : Table) where
 -- a head comes after a record
 
 every_after : {X : Type 0} (test : X → Bool) (xs ys : List X) → list_all test (xs ++ ys) ≡ true → list_all test ys ≡ true
-every_after test [] ys e = e
-every_after test (x ∷ xs) ys e = every_after test xs ys (and_parts (test x) (list_all test (xs ++ ys)) e).1
+every_after test xs ys e = grind (arith, common_steps)
 
 actors_over : (rows : List ActorRow) (more : List ℕ) → list_all good_actor rows ≡ true → Over more → Over (flat_map actor_words rows ++ more)
 actors_over [] more e o = o
