@@ -10,10 +10,9 @@ use Rattle.words.specs.declared.fault.LoadFault.TheVariants.{Word}
 use Rattle.words.specs.Format.{kind_of, table_words, Describes}
 use Rattle.word_laws.specs.Offends.{Shaped, Begins, Unfinished, Offends, Why, unknown_kind, misplaced, wrong_count, after_end, WordRefused, missing, offending, RefusedBy, by_row, by_word}
 use Rattle.words.specs.Loads.{table_read}
-use Rattle.word_laws.proofs.Reading.{read_described}
 use Rattle.word_laws.proofs.Reached.{whole_stops}
 use Rattle.word_laws.proofs.Begun.{lawful_shaped, begins_front, unfinished_begins}
-use Rattle.word_laws.proofs.Refused.{row_answer, refusal_means}
+use Rattle.word_laws.proofs.Refused.{row_answer, read_described, refusal_means}
 
 absurdly : {X : Type 0} → ◌≡◌ {A = ℕ} 0 1 → X
 absurdly z = absurd (let y : ⊥ = omega arith in y)

@@ -20,16 +20,18 @@ use Rattle.words.specs.Loads.{has_channels}
 use Rattle.words.proofs.Bits.{word_again, writer_small, reader_small, writes_small, reads_small, ends_again}
 use Rattle.word_laws.proofs.Places.{drop_there, Numbers, numbers_there}
 use Rattle.words.proofs.Fits.{actor_fits, channel_fits, actor_few, channel_few, rows_bound}
-use Rattle.word_laws.proofs.Reading.{words_with_actor, words_with_channel, Sofar}
+use Rattle.word_laws.proofs.Reading.{actors_fit, channels_fit, words_with_actor, words_with_channel, Sofar}
 
 -- a lawful table is shaped
 
-all_tested : {X : Type 0} (test : X → Bool) (P : X → Type 0) → ((x : X) → test x ≡ true → P x) → (xs : List X) → list_all test xs ≡ true → AllByRecursion P xs
-all_tested test P f [] e = tt
-all_tested test P f (x ∷ xs) e = let p = and_parts (test x) (list_all test xs) e in (f x p.0, all_tested test P f xs p.1)
-
 pub lawful_shaped : (t : Table) → lawful t ≡ true → Shaped t
-lawful_shaped t e = grind (arith, rows_bound, all_tested, actor_fits, passes_none, channel_fits)
+lawful_shaped t e =
+    let l = lawful_parts t e in
+    record {
+      actors_fit = actors_fit t.actors l.good_actors;
+      channels_fit = channels_fit t.actors l.few_actors l.good_actors t.channels l.good_channels;
+      few_words = omega (arith, rows_bound t e);
+    }
 
 -- and so it is with one more row that fits
 

@@ -13,8 +13,8 @@ use Rattle.word_save.specs.Saves.{written, saving}
 use Rattle.word_laws.specs.Offends.{RefusedBy}
 use Rattle.word_laws.specs.Laws.{Loads, Saves}
 use Rattle.words.proofs.Loaded.{loaded, not_loaded}
-use Rattle.word_laws.proofs.Reading.{described_read, read_described}
-use Rattle.word_laws.proofs.Refused.{refusal_means}
+use Rattle.word_laws.proofs.Reading.{described_read}
+use Rattle.word_laws.proofs.Refused.{read_described, refusal_means}
 use Rattle.word_laws.proofs.Answered.{means_refusal}
 
 module _ (ws : List ℕ) where

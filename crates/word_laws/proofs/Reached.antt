@@ -14,7 +14,7 @@ use Rattle.words.specs.Fitting.{small, ActorFits, ChannelFits}
 use Rattle.word_laws.specs.Offends.{Shaped}
 use Rattle.words.specs.Records.{actor_part, channel_part, end_part, record_at}
 use Rattle.word_laws.proofs.Places.{drop_past}
-use Rattle.word_laws.proofs.RowRecords.{Over, over_head, ends, ends_fit, actor_read, channel_read, end_read}
+use Rattle.word_laws.proofs.RowRecords.{Over, over_head, actors_over, channels_over, ends, ends_fit, actor_read, channel_read, end_read}
 use Rattle.words.proofs.Headed.{headed_by_lem}
 use Rattle.words.proofs.Whole.{read_as}
 use Rattle.word_laws.proofs.Alike.{at_alike, actor_alike, channel_alike}
@@ -62,18 +62,6 @@ reached_alike n ws vs alike b h (past_channel c i part r e) l =
 
 abbrev end_words : ℕ → List ℕ
 end_words z = word_of 7 z ∷ []
-
-actors_over : (rows : List ActorRow) (more : List ℕ) → AllByRecursion ActorFits rows → Over more → Over (flat_map actor_words rows ++ more)
-actors_over [] more f o = o
-actors_over (a ∷ rows) more f o =
-    let few = f.0.few in
-    let n = length a.times in
-    let low : n < 268435456 = omega arith in
-    over_head 1 n _ (lt-ltb n 268435456 low) refl refl refl
-
-channels_over : (cs : List ChannelRow) (more : List ℕ) → AllByRecursion ChannelFits cs → Over more → Over (flat_map channel_words cs ++ more)
-channels_over [] more f o = o
-channels_over (c ∷ cs) more f o = over_head 2 (ends c) _ (ends_fit c f.0) refl refl refl
 
 module _ (ws : List ℕ) (z : ℕ) (low : small z ≡ true) where
   channels_end : (b : Bool) (h : ℕ) (cs : List ChannelRow) → AllByRecursion ChannelFits cs → drop h ws ≡ flat_map channel_words cs ++ end_words z

@@ -2,7 +2,7 @@
 use Rattle.std.proofs.lemmas.Grind.{common_steps}
 use Rattle.std.proofs.lemmas.Option.{gets}
 use Rattle.std.proofs.Common.{◌≡◌, ℕ, suc, ◌+◌, ◌-◌, ◌<◌, Bool, true, false, cond, eqb, ltb, List, [], ◌∷◌, ◌++◌, map, length, drop, Some, None, Ok, Err, Option, Result, sym, refl, ap, ◌∙◌, append_assoc, append-nil, arith, length-append, length-drop}
-use Rattle.std.specs.List.{between}
+use Rattle.std.specs.List.{between, flat_map, AllByRecursion}
 use Rattle.std.proofs.lemmas.List.{length-map}
 use Rattle.std.proofs.lemmas.Bool.{lt-ltb, eq-eqb}
 use Rattle.rows.specs.Steps.{answer}
@@ -225,6 +225,20 @@ module _ (c : ChannelRow) (f : ChannelFits c) where
       let j_is : suc n ≡ 1 + n = omega arith in
       (λ i. channel_with (w i) (r i) (rates_from part 1 (suc (u i))) (rates_from part (suc (u i)) (suc (u i) + v i)) (given part (suc (u i) + v i) 6))
       ∙ channel_row_lem c part 0 (suc n) (suc n + m) [] (sym (append-nil part)) f j_is refl over_none
+
+-- the words of rows that fit do not go on the record before them
+
+pub actors_over : (rows : List ActorRow) (more : List ℕ) → AllByRecursion ActorFits rows → Over more → Over (flat_map actor_words rows ++ more)
+actors_over [] more f o = o
+actors_over (a ∷ rows) more f o =
+    let few = f.0.few in
+    let n = length a.times in
+    let low : n < 268435456 = omega arith in
+    over_head 1 n _ (lt-ltb n 268435456 low) refl refl refl
+
+pub channels_over : (cs : List ChannelRow) (more : List ℕ) → AllByRecursion ChannelFits cs → Over more → Over (flat_map channel_words cs ++ more)
+channels_over [] more f o = o
+channels_over (c ∷ cs) more f o = over_head 2 (ends c) _ (ends_fit c f.0) refl refl refl
 
 -- the end
 
