@@ -10,10 +10,9 @@ use Rattle.words.specs.declared.fault.LoadFault.TheVariants.{Word}
 use Rattle.words.specs.Format.{kind_of, table_words, Describes}
 use Rattle.word_laws.specs.Offends.{Shaped, Begins, Unfinished, Offends, Why, unknown_kind, misplaced, wrong_count, after_end, WordRefused, missing, offending, RefusedBy, by_row, by_word}
 use Rattle.words.specs.Loads.{table_read}
-use Rattle.word_laws.proofs.Reading.{read_described}
 use Rattle.word_laws.proofs.Reached.{whole_stops}
 use Rattle.word_laws.proofs.Begun.{lawful_shaped, begins_front, unfinished_begins}
-use Rattle.word_laws.proofs.Refused.{row_answer, refusal_means}
+use Rattle.word_laws.proofs.Refused.{row_answer, read_described, refusal_means}
 
 absurdly : {X : Type 0} → ◌≡◌ {A = ℕ} 0 1 → X
 absurdly z = absurd (let y : ⊥ = omega arith in y)
@@ -21,10 +20,7 @@ absurdly z = absurd (let y : ⊥ = omega arith in y)
 -- words that begin a table
 
 finished : (xs : List ℕ) → Unfinished xs → (t : Table) → Shaped t → xs ≡ table_words t → ⊥
-finished xs u t s e =
-    let g = u.begins in
-    whole_stops t g.table s g.shaped u.next g.more
-    (ap (λ l. l ++ u.next ∷ g.more) (sym e) ∙ sym (append_assoc xs (u.next ∷ []) g.more) ∙ g.written)
+finished xs u t s e = grind (arith, whole_stops, append_assoc)
 
 begins_taken : (ws : List ℕ) (n : ℕ) → Begins ws → Begins (take n ws)
 begins_taken ws n g = begins_front (take n ws) (drop n ws) (subst Begins (sym (take-append-drop n ws)) g)
@@ -36,8 +32,7 @@ module _ (ws : List ℕ) (p w q v : ℕ) (o : Offends ws p w) (x : Offends ws q 
   not_before_lem l = o.not_with_it (subst Begins (take-take (suc p) q ws l) (begins_taken (take q ws) (suc p) x.before))
 
 same_place : (ws : List ℕ) (p w q v : ℕ) → Offends ws p w → Offends ws q v → p ≡ q
-same_place ws p w q v o x =
-    ⊎_elim (λ e. e) (λ c. ⊎_elim (λ l. absurd (not_before_lem ws p w q v o x l)) (λ l. absurd (not_before_lem ws q v p w x o l)) c) (cases_order p q)
+same_place ws p w q v o x = grind (arith, not_before_lem)
 
 -- and one reason
 

@@ -1,4 +1,5 @@
 -- The words before a fault begin a table: the record under way can be completed.
+use Rattle.std.proofs.lemmas.Grind.{common_steps}
 use Rattle.std.proofs.Common.{◌≡◌, ℕ, zero, suc, ◌+◌, ◌-◌, ◌<◌, ◌≤◌, Bool, true, false, List, [], ◌∷◌, ◌++◌, map, length, take, drop, replicate, Some, None, sym, refl, ap, ◌∙◌, subst, append_assoc, append-nil, arith, length-append, length-drop, take-append-drop}
 use mathlib.Core.List.{map-append}
 use lib.ListN.{length-replicate}
@@ -19,35 +20,23 @@ use Rattle.words.specs.Loads.{has_channels}
 use Rattle.words.proofs.Bits.{word_again, writer_small, reader_small, writes_small, reads_small, ends_again}
 use Rattle.word_laws.proofs.Places.{drop_there, Numbers, numbers_there}
 use Rattle.words.proofs.Fits.{actor_fits, channel_fits, actor_few, channel_few, rows_bound}
-use Rattle.word_laws.proofs.Reading.{words_with_actor, words_with_channel, Sofar}
+use Rattle.word_laws.proofs.Reading.{actors_fit, channels_fit, words_with_actor, words_with_channel, Sofar}
 
 -- a lawful table is shaped
-
-all_tested : {X : Type 0} (test : X → Bool) (P : X → Type 0) → ((x : X) → test x ≡ true → P x) → (xs : List X) → list_all test xs ≡ true → AllByRecursion P xs
-all_tested test P f [] e = tt
-all_tested test P f (x ∷ xs) e = let p = and_parts (test x) (list_all test xs) e in (f x p.0, all_tested test P f xs p.1)
 
 pub lawful_shaped : (t : Table) → lawful t ≡ true → Shaped t
 lawful_shaped t e =
     let l = lawful_parts t e in
-    let n = rows_bound t e in
     record {
-      actors_fit = all_tested _ ActorFits (λ a h. actor_fits a (passes_none (actor_fault a) h)) t.actors l.good_actors;
-      channels_fit =
-          all_tested _ ChannelFits (λ c h. channel_fits t.actors c l.few_actors l.good_actors (passes_none (channel_fault t.actors c) h))
-          t.channels l.good_channels;
-      few_words = omega arith;
+      actors_fit = actors_fit t.actors l.good_actors;
+      channels_fit = channels_fit t.actors l.few_actors l.good_actors t.channels l.good_channels;
+      few_words = omega (arith, rows_bound t e);
     }
 
 -- and so it is with one more row that fits
 
 shaped_with_actor : (t : Table) → lawful t ≡ true → (a : ActorRow) → ActorFits a → row_words ((add_actor a).made t) ≡ row_words t ++ actor_words a → Shaped ((add_actor a).made t)
-shaped_with_actor t e a f w =
-    let s = lawful_shaped t e in
-    let n = rows_bound t e in
-    let m = actor_few a f in
-    let k = ap length w ∙ length-append (row_words t) (actor_words a) in
-    record { actors_fit = All-push ActorFits t.actors a s.actors_fit f; channels_fit = s.channels_fit; few_words = omega arith }
+shaped_with_actor t e a f w = grind (arith, common_steps, lawful_shaped, rows_bound)
 
 shaped_with_channel : (t : Table) → lawful t ≡ true → (c : ChannelRow) → ChannelFits c → Shaped ((add_channel c).made t)
 shaped_with_channel t e c f =
@@ -60,8 +49,7 @@ shaped_with_channel t e c f =
 -- words that begin a table
 
 pub begins_front : (xs ys : List ℕ) → Begins (xs ++ ys) → Begins xs
-begins_front xs ys b =
-    record { table = b.table; shaped = b.shaped; more = ys ++ b.more; written = sym (append_assoc xs ys b.more) ∙ b.written }
+begins_front xs ys b = grind (arith, common_steps)
 
 pub unfinished_begins : (xs : List ℕ) → Unfinished xs → Begins xs
 unfinished_begins xs u = begins_front xs (u.next ∷ []) u.begins
@@ -80,13 +68,7 @@ module _ (ws : List ℕ) (h : ℕ) (t : Table) (s : Sofar ws h t) where
 
   -- the table may end after its rows
   pub may_end : MayEnd ws h
-  may_end =
-      record {
-        table = t;
-        shaped = lawful_shaped t s.good;
-        more = [];
-        written = append-nil (take h ws ++ word_of 7 h ∷ []) ∙ ap (λ l. l ++ word_of 7 h ∷ []) rows_taken ∙ ap (λ n. row_words t ++ word_of 7 n ∷ []) s.here;
-      }
+  may_end = grind (arith, lawful_shaped, append-nil, rows_taken)
 
   pub rows_unfinished : Unfinished (take h ws)
   rows_unfinished = record { next = word_of 7 h; begins = may_end }
@@ -124,16 +106,10 @@ zeros_small zero = refl
 zeros_small (suc k) = zeros_small k
 
 every_join : {X : Type 0} (test : X → Bool) (xs ys : List X) → list_all test xs ≡ true → list_all test ys ≡ true → list_all test (xs ++ ys) ≡ true
-every_join test [] ys e f = f
-every_join test (x ∷ xs) ys e f =
-    let p = and_parts (test x) (list_all test xs) e in and_from (test x) (list_all test (xs ++ ys)) p.0 (every_join test xs ys p.1 f)
+every_join test xs ys e f = grind (arith, common_steps)
 
 every_parts : {X : Type 0} (test : X → Bool) (xs ys : List X) → list_all test (xs ++ ys) ≡ true → (list_all test xs ≡ true) × (list_all test ys ≡ true)
-every_parts test [] ys e = (refl, e)
-every_parts test (x ∷ xs) ys e =
-    let p = and_parts (test x) (list_all test (xs ++ ys)) e in
-    let q = every_parts test xs ys p.1 in
-    (and_from (test x) (list_all test xs) p.0 q.0, q.1)
+every_parts test xs ys e = grind (arith, common_steps)
 
 record Filled (xs : List ℕ) (n : ℕ) : Type 0 where
   ys : List ℕ
@@ -150,9 +126,7 @@ filled xs n l e =
 
 module _ (ws : List ℕ) (h : ℕ) (t : Table) (s : Sofar ws h t) (w : ℕ) (stands : slice_get ws h ≡ Some w) (j : ℕ) (found : numbers_fault ws (suc h) j ≡ None) where
   numbers_taken : (ns : Numbers ws (suc h) j) → take (suc h + j) ws ≡ row_words t ++ (w ∷ map (word_of 3) ns.numbers)
-  numbers_taken ns =
-      ap (λ i. take (suc h + i) ws) (sym ns.many)
-      ∙ front_taken ws h t s w ns.numbers (drop (suc h + j) ws) (drop_there ws h w stands ∙ ap (λ l. w ∷ l) ns.words)
+  numbers_taken ns = grind (arith, front_taken, drop_there)
 
   pub actor_under_way : kind_of w ≡ 1 → has_channels t ≡ false → content_of w < 256 → j < content_of w → Unfinished (take (suc h + j) ws)
   actor_under_way k early few l =

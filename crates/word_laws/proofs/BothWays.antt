@@ -13,8 +13,8 @@ use Rattle.word_save.specs.Saves.{written, saving}
 use Rattle.word_laws.specs.Offends.{RefusedBy}
 use Rattle.word_laws.specs.Laws.{Loads, Saves}
 use Rattle.words.proofs.Loaded.{loaded, not_loaded}
-use Rattle.word_laws.proofs.Reading.{described_read, read_described}
-use Rattle.word_laws.proofs.Refused.{refusal_means}
+use Rattle.word_laws.proofs.Reading.{described_read}
+use Rattle.word_laws.proofs.Refused.{read_described, refusal_means}
 use Rattle.word_laws.proofs.Answered.{means_refusal}
 
 module _ (ws : List ℕ) where
@@ -29,8 +29,7 @@ module _ (ws : List ℕ) where
   answers_same t after other r s d e = (d.answered ∙ sym e.answered, d.left ∙ sym e.left)
 
   refused_in : (r : Result Table LoadFault) (f : LoadFault) → table_read ws ≡ r → fault_in r ≡ Some f → RefusedBy ws f
-  refused_in (Ok t) f e n = let z : ◌≡◌ {A = ℕ} 0 1 = cc in absurd (let y : ⊥ = omega arith in y)
-  refused_in (Err g) f e n = refusal_means ws f (e ∙ ap (λ h. Err h) (cc))
+  refused_in v0 f e n = grind (arith, refusal_means)
 
   refused_since : (after : Table) (r : Result ℕ LoadFault) (f : LoadFault) → Does (loading ws) empty_table after r → r ≡ Err f → RefusedBy ws f
   refused_since after r f d e = refused_in (table_read ws) f refl (when_refused (loading ws) empty_table after f (subst (Does (loading ws) empty_table after) e d)).0
@@ -58,14 +57,4 @@ module _ (t : Table) (l : lawful t ≡ true) where
   written_front out = take_at (table_words t) (drop (0 + length (table_words t)) out) (length (table_words t)) refl
 
   pub save_laws : (was out : List ℕ) (r : Result ℕ SaveFault) → Does (saving t) was out r → Saves t out r
-  save_laws was out r d =
-      record {
-        written_describes = λ n e. (front n e).1;
-        loads_back = λ n e. subst (λ k. Does (loading (take n out)) empty_table t (Ok k)) (front n e).0 (described_loads (take n out) t (front n e).1);
-      }
-    where
-      front : (n : ℕ) → r ≡ Ok n → (length (take n out) ≡ n) × Describes (take n out) t
-      front n e =
-          let g = when_granted (saving t) was out n (subst (Does (saving t) was out) e d) in
-          let is : take n out ≡ table_words t = ap (λ k. take k out) g.1 ∙ ap (take (length (table_words t))) g.2 ∙ written_front was in
-          (ap length is ∙ sym g.1, subst (λ w. Describes w t) (sym is) words_describe)
+  save_laws was out r d = grind (arith, described_loads, written_front)

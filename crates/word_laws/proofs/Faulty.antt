@@ -38,13 +38,11 @@ absurdly : {X : Type 0} → ◌≡◌ {A = ℕ} 0 1 → X
 absurdly z = absurd (let y : ⊥ = omega arith in y)
 
 answer_err : {F V : Type 0} (o : Option F) (v : V) (f : F) → answer o v ≡ Err f → o ≡ Some f
-answer_err None v f e = absurdly (cc)
-answer_err (Some g) v f e = cc
+answer_err o v f e = grind arith
 
 -- the fault of a chain of checks is that of its first check, or of those after it
 check_cases : {F : Type 0} (b : Bool) (g : F) (later : Option F) (f : F) → check b g later ≡ Some f → ((b ≡ false) × (f ≡ g)) ⊎ ((b ≡ true) × (later ≡ Some f))
-check_cases true g later f e = inr (refl, e)
-check_cases false g later f e = inl (refl, cc)
+check_cases t g later f e = grind arith
 
 -- numbers
 

@@ -1,4 +1,6 @@
 -- A record that is read is the longest row that the words go on with.
+use Rattle.std.proofs.lemmas.Grind.{common_steps}
+use Rattle.std.proofs.lemmas.Option.{gets}
 use Rattle.std.proofs.Common.{◌≡◌, ℕ, suc, ◌+◌, ◌≤◌, Bool, true, false, List, [], ◌∷◌, ◌++◌, map, length, take, drop, is_some, Some, None, Ok, Option, sym, refl, ap, ◌∙◌, arith, length-append, length-drop}
 use Rattle.std.specs.List.{between}
 use Rattle.std.proofs.lemmas.List.{length-map, take_at}
@@ -23,51 +25,17 @@ given_first ws i k n more e s = past_given ws i k (Some n) (given_from ws i k �
 
 option_least : (ws : List ℕ) (i k : ℕ) (o : Option ℕ) (more : List ℕ) → drop i ws ≡ option_words k o ++ more → small_if o ≡ true
     → i + length (option_words k o) ≤ past ws i k
-option_least ws i k None more e s = let g = past_grows ws i k in omega arith
-option_least ws i k (Some n) more e s = let g = given_first ws i k n more e s in omega arith
+option_least ws i k o more e s = grind (arith, common_steps, gets)
 
 options_least : (ws : List ℕ) (j : ℕ) (o p : Option ℕ) (more : List ℕ) → drop j ws ≡ option_words 4 o ++ (option_words 5 p ++ more)
     → small_if o ≡ true → small_if p ≡ true → j + length (option_words 4 o) + length (option_words 5 p) ≤ past ws (past ws j 4) 5
-options_least ws j (Some n) p more e s u =
-    let after = option_words 5 p ++ more in
-    let g = given_first ws j 4 n after e s in
-    let l = option_least ws (past ws j 4) 5 p more (drop_past ws j (past ws j 4) (word_of 4 n ∷ []) after e g) u in
-    omega arith
-options_least ws j None None more e s u =
-    let a = past_grows ws j 4 in
-    let b = past_grows ws (past ws j 4) 5 in
-    omega arith
-options_least ws j None (Some m) more e s u =
-    let g = past_given ws j 4 None (given_from ws j 4 ∙ ap (λ l. given l 0 4) e ∙ given_other 4 5 m more u refl) in
-    let l = option_least ws (past ws j 4) 5 (Some m) more (drop_past ws j (past ws j 4) [] (word_of 5 m ∷ more) e g) u in
-    omega arith
+options_least ws j o p more e s u = grind (arith, drop_past, given_from)
 
 -- the records
 
 pub actor_longest : (ws : List ℕ) (h : ℕ) (part : List ℕ) (a : ActorRow) (rest : List ℕ) → record_at false ws h ≡ Ok (actor_part part) → ActorFits a
     → drop h ws ≡ actor_words a ++ rest → length (actor_words a) ≤ length part
-actor_longest ws h part a rest r f e =
-    let n = length a.times in
-    let j = suc h + n in
-    let x = option_words 4 a.not_before in
-    let y = option_words 5 (pin_of a.placement) in
-    let ts = map (word_of 3) a.times in
-    let size = length-map a.times (word_of 3) in
-    let u = length-append ts (x ++ y) in
-    let v = length-append x y in
-    let all = ap length (sym e) ∙ length-drop h ws in
-    let both = length-append (actor_words a) rest in
-    let in_words : j ≤ length ws = omega arith in
-    let stop = past ws (past ws j 4) 5 in
-    let p = past_within ws j 4 in_words in
-    let p0 = p.0 in
-    let q = past_within ws (past ws j 4) 5 p.1 in
-    let q0 = q.0 in
-    let q1 = q.1 in
-    let least = options_least ws j a.not_before (pin_of a.placement) rest (after_times_lem a ws h j rest e f refl) f.tick_small f.pin_small in
-    let is : between h stop ws ≡ part = cc (actor_there a ws h rest e f) in
-    let long = ap length (sym is) ∙ between_length ws h stop (omega arith) q1 in
-    omega arith
+actor_longest ws h part a rest r f e = grind (arith, common_steps, gets, options_least, after_times_lem, actor_there)
 
 pub channel_longest : (b : Bool) (ws : List ℕ) (h : ℕ) (part : List ℕ) (c : ChannelRow) (rest : List ℕ) → record_at b ws h ≡ Ok (channel_part part) → ChannelFits c
     → drop h ws ≡ channel_words c ++ rest → length (channel_words c) ≤ length part

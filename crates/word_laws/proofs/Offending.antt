@@ -1,4 +1,6 @@
 -- A fault of a word: the first that offends, or one that is missing.
+use Rattle.std.proofs.lemmas.Grind.{common_steps}
+use Rattle.std.proofs.lemmas.Option.{gets}
 use Rattle.std.proofs.Common.{◌≡◌, ℕ, zero, suc, ◌+◌, ◌<◌, ◌≤◌, Bool, true, false, not, ◌&&◌, eqb, ltb, List, [], ◌∷◌, ◌++◌, length, get_or, take, drop, Some, None, Err, Option, sym, refl, ap, ◌∙◌, subst, append_assoc, append-nil, arith}
 use Rattle.std.proofs.lemmas.List.{length-take-le, take_all, take_at, drop_at}
 use Rattle.std.proofs.lemmas.Bool.{and_from, not_from_false, lt-ltb, eq-eqb, ne_eqb, cond-true, cond-false}
@@ -15,7 +17,8 @@ use Rattle.words.specs.Records.{wrong_kind, numbers_fault, writes_in, reads_in, 
 use Rattle.words.specs.Loads.{has_channels}
 use Rattle.words.proofs.Bits.{word_again}
 use Rattle.word_laws.proofs.Places.{at_head}
-use Rattle.words.proofs.Found.{there, number_by, goes_on, numbers_other}
+use Rattle.std.proofs.lemmas.Option.{slice_get_within, slice_get-get_or}
+use Rattle.words.proofs.Found.{ number_by, goes_on, numbers_other}
 use Rattle.words.proofs.Headed.{headed_by_lem, wrongly_headed}
 use Rattle.words.proofs.Whole.{numbers_within}
 use Rattle.word_laws.proofs.Faulty.{NoNumber, lacks, other, Faulty, no_head, wrong_head, wrong_actor, in_actor, wrong_channel, in_channel, wrong_end, not_last}
@@ -33,19 +36,10 @@ answer_fault o v f e = ap (λ x. answer x v) e
 -- a place of the words
 
 past_all : (xs : List ℕ) (i : ℕ) → slice_get xs i ≡ None → length xs ≤ i
-past_all [] i e = omega arith
-past_all (x ∷ xs) zero e = absurdly (cc)
-past_all (x ∷ xs) (suc i) e = let l = past_all xs i e in omega arith
-
-word_there : (xs : List ℕ) (i : ℕ) → i < length xs → slice_get xs i ≡ Some (get_or xs i 0)
-word_there [] i l = absurd (let z : ⊥ = omega arith in z)
-word_there (x ∷ xs) zero l = refl
-word_there (x ∷ xs) (suc i) l = word_there xs i (omega arith)
+past_all xs i e = grind (arith, gets)
 
 take_next : (xs : List ℕ) (i x : ℕ) → slice_get xs i ≡ Some x → take (suc i) xs ≡ take i xs ++ x ∷ []
-take_next [] i x e = absurdly (cc)
-take_next (y ∷ xs) zero x e = let s : y ≡ x = cc in ap (λ z. z ∷ []) s
-take_next (y ∷ xs) (suc i) x e = ap (λ l. y ∷ l) (take_next xs i x e)
+take_next xs i x e = grind (arith, common_steps, gets)
 
 -- the first word that is no number is the fault
 numbers_stop : (vs : List ℕ) (i j n v : ℕ) → numbers_fault vs i j ≡ None → j < n → slice_get vs (i + j) ≡ Some v → (kind_of v ≡ 3 → ⊥)
@@ -90,7 +84,7 @@ module _ (ws : List ℕ) (h : ℕ) (t : Table) (s : Sofar ws h t) (r : Reached w
 
   head_offends : (w : ℕ) → slice_get ws h ≡ Some w → (f : WordFault) → ((vs : List ℕ) → slice_get vs h ≡ Some w → record_at b vs h ≡ Err f) → Offends ws h w
   head_offends w a f fault =
-      let l = there ws h w a in
+      let l = slice_get_within ws h w a in
       record {
         there = a;
         before = unfinished_begins (take h ws) (rows_unfinished ws h t s);
@@ -111,7 +105,7 @@ module _ (ws : List ℕ) (h : ℕ) (t : Table) (s : Sofar ws h t) (r : Reached w
       (fault : (vs : List ℕ) → slice_get vs h ≡ Some w → (f : WordFault) → numbers_fault vs (suc h) n ≡ Some f → record_at b vs h ≡ Err f) where
     module _ (j : ℕ) (less : j < n) (numbers : numbers_fault ws (suc h) j ≡ None) where
       p_within : suc h + j ≤ length ws
-      p_within = let l = there ws h w stands in numbers_within ws j (suc h) numbers l
+      p_within = let l = slice_get_within ws h w stands in numbers_within ws j (suc h) numbers l
 
       only_number : (v : ℕ) → (kind_of v ≡ 3 → ⊥) → Begins (take (suc h + j) ws ++ v ∷ []) → ⊥
       only_number v k g =
@@ -163,10 +157,10 @@ module _ (ws : List ℕ) (h : ℕ) (t : Table) (s : Sofar ws h t) (r : Reached w
   -- a word after the end
   goes_on_lem : (w : ℕ) → slice_get ws h ≡ Some w → kind_of w ≡ 7 → content_of w ≡ h → (length ws ≡ suc h → ⊥) → WordRefused ws (WrongEnd (suc h))
   goes_on_lem w a k e more =
-      let l = there ws h w a in
+      let l = slice_get_within ws h w a in
       let m : suc h < length ws = omega arith in
       let v = get_or ws (suc h) 0 in
-      let v_there = word_there ws (suc h) m in
+      let v_there = slice_get-get_or ws (suc h) 0 m in
       let is = word_again w 7 k in
       let here : take (suc h) ws ≡ table_words t =
       take_next ws h w a ∙ ap (λ l. l ++ w ∷ []) (rows_taken ws h t s) ∙ ap (λ x. row_words t ++ x ∷ []) is
@@ -174,7 +168,7 @@ module _ (ws : List ℕ) (h : ℕ) (t : Table) (s : Sofar ws h t) (r : Reached w
       let shaped = lawful_shaped t s.good in
       let longer : (vs : List ℕ) → take (suc (suc h)) ws ≡ take (suc (suc h)) vs → record_at b vs h ≡ Err (WrongEnd (suc h)) =
       λ vs alike.
-      let n = there vs (suc h) v (sym (at_alike (suc (suc h)) ws vs alike (suc h) (omega arith)) ∙ v_there) in
+      let n = slice_get_within vs (suc h) v (sym (at_alike (suc (suc h)) ws vs alike (suc h) (omega arith)) ∙ v_there) in
       end_fault w k vs (sym (at_alike (suc (suc h)) ws vs alike h (omega arith)) ∙ a) (WrongEnd (suc h))
       (cond-true (eqb (content_of w) h) _ _ (eq-eqb (content_of w) h e)
       ∙ sym (check_failed (eqb (length vs) (suc h)) (WrongEnd (suc h)) None (ne_eqb (length vs) (suc h) (λ z. omega arith)))) in

@@ -1,4 +1,6 @@
 -- The words from a place on: numbers, and words that may be left out.
+use Rattle.std.proofs.lemmas.Grind.{common_steps}
+use Rattle.std.proofs.lemmas.Option.{gets}
 use Rattle.std.proofs.Common.{◌≡◌, ℕ, zero, suc, ◌+◌, ◌-◌, Bool, true, false, cond, eqb, List, [], ◌∷◌, ◌++◌, map, length, take, drop, is_some, Some, None, Option, sym, refl, ap, ◌∙◌, subst, arith, drop-drop, take_at, drop_at}
 use Rattle.std.specs.List.{between}
 use Rattle.std.proofs.lemmas.List.{length-map}
@@ -17,10 +19,7 @@ use Rattle.words.proofs.Bits.{kind_of_word, content_of_word, word_again, content
 
 module _ {X : Type 0} where
   pub at_first : (xs : List X) (i : ℕ) → slice_get xs i ≡ slice_get (drop i xs) 0
-  at_first [] zero = refl
-  at_first [] (suc i) = refl
-  at_first (x ∷ xs) zero = refl
-  at_first (x ∷ xs) (suc i) = at_first xs i
+  at_first xs i = grind (arith, common_steps, gets)
 
   pub drop_past : (xs : List X) (i j : ℕ) (front more : List X) → drop i xs ≡ front ++ more → j ≡ i + length front → drop j xs ≡ more
   drop_past xs i j front more e k =
@@ -30,22 +29,17 @@ module _ {X : Type 0} where
   drop_next xs i x more e = drop_past xs i (suc i) (x ∷ []) more e (omega arith)
 
   pub between_front : (xs : List X) (i j : ℕ) (front more : List X) → drop i xs ≡ front ++ more → j ≡ i + length front → between i j xs ≡ front
-  between_front xs i j front more e k =
-      let n : length front ≡ j - i = omega arith in
-      ap (take (j - i)) e ∙ take_at front more (j - i) n
+  between_front xs i j front more e k = grind (arith, common_steps)
 
   pub at_head : (xs : List X) (i : ℕ) (x : X) (more : List X) → drop i xs ≡ x ∷ more → slice_get xs i ≡ Some x
   at_head xs i x more e = at_first xs i ∙ ap (λ l. slice_get l 0) e
 
   -- the element at a place begins the list from there on
   first_there : (l : List X) (x : X) → slice_get l 0 ≡ Some x → l ≡ x ∷ drop 1 l
-  first_there [] x e = let z : ◌≡◌ {A = ℕ} 0 1 = cc in absurd (let w : ⊥ = omega arith in w)
-  first_there (y ∷ l) x e = let s : y ≡ x = cc in ap (λ z. z ∷ l) s
+  first_there l x e = grind arith
 
   pub drop_there : (xs : List X) (i : ℕ) (x : X) → slice_get xs i ≡ Some x → drop i xs ≡ x ∷ drop (suc i) xs
-  drop_there xs i x e =
-      let next : i + 1 ≡ suc i = omega arith in
-      first_there (drop i xs) x (sym (at_first xs i) ∙ e) ∙ ap (λ l. x ∷ l) (drop-drop 1 i xs ∙ ap (λ n. drop n xs) next)
+  drop_there xs i x e = grind (arith, common_steps, gets)
 
 -- contents that fit their bits
 
@@ -76,32 +70,23 @@ pub given_from : (ws : List ℕ) (i k : ℕ) → given ws i k ≡ given (drop i 
 given_from ws i k = ap (λ o. given_in o k) (at_first ws i)
 
 pub given_word : (k n : ℕ) (more : List ℕ) → small n ≡ true → given (word_of k n ∷ more) 0 k ≡ Some n
-given_word k n more s =
-    cond-true (eqb (kind_of (word_of k n)) k) (Some (content_of (word_of k n))) None (ap (λ j. eqb j k) (kind_read k n s) ∙ eq-eqb k k refl)
-    ∙ ap (λ c. Some c) (content_read k n s)
+given_word k n more s = grind arith
 
 pub given_other : (k j n : ℕ) (more : List ℕ) → small n ≡ true → eqb j k ≡ false → given (word_of j n ∷ more) 0 k ≡ None
-given_other k j n more s d =
-    cond-false (eqb (kind_of (word_of j n)) k) (Some (content_of (word_of j n))) None (ap (λ i. eqb i k) (kind_read j n s) ∙ d)
+given_other k j n more s d = grind arith
 
 -- no word of another kind is taken for one of kind k
 pub given_skips : (k j : ℕ) (o : Option ℕ) (more : List ℕ) → small_if o ≡ true → eqb j k ≡ false → given more 0 k ≡ None → given (option_words j o ++ more) 0 k ≡ None
-given_skips k j None more s d e = e
-given_skips k j (Some n) more s d e = given_other k j n more s d
+given_skips k j o more s d e = grind arith
 
 first_given : (k : ℕ) (o : Option ℕ) (more : List ℕ) → small_if o ≡ true → given more 0 k ≡ None → given (option_words k o ++ more) 0 k ≡ o
-first_given k None more s e = e
-first_given k (Some n) more s e = given_word k n more s
+first_given k o more s e = grind arith
 
 pub given_read : (ws : List ℕ) (i k : ℕ) (o : Option ℕ) (more : List ℕ) → drop i ws ≡ option_words k o ++ more → small_if o ≡ true → given more 0 k ≡ None → given ws i k ≡ o
 given_read ws i k o more e s n = given_from ws i k ∙ ap (λ l. given l 0 k) e ∙ first_given k o more s n
 
 pub past_given : (ws : List ℕ) (i k : ℕ) (o : Option ℕ) → given ws i k ≡ o → past ws i k ≡ i + length (option_words k o)
-past_given ws i k o e = ap (λ g. cond (is_some g) (suc i) i) e ∙ after o
-  where
-    after : (o : Option ℕ) → cond (is_some o) (suc i) i ≡ i + length (option_words k o)
-    after None = omega arith
-    after (Some n) = omega arith
+past_given ws i k o e = grind arith
 
 -- what is given is there
 
@@ -110,24 +95,13 @@ record Gives (l : List ℕ) (k : ℕ) (o : Option ℕ) : Type 0 where
   words : l ≡ option_words k o ++ drop (length (option_words k o)) l
 
 first_gives : (l : List ℕ) (k : ℕ) → Gives l k (given l 0 k)
-first_gives [] k = record { fits = refl; words = refl }
-first_gives (w ∷ l) k = split (eqb (kind_of w) k) refl
-  where
-    split : (b : Bool) → eqb (kind_of w) k ≡ b → Gives (w ∷ l) k (cond b (Some (content_of w)) None)
-    split true e = record { fits = small_content w; words = ap (λ x. x ∷ l) (word_again w k (eqb-true (kind_of w) k e)) }
-    split false e = record { fits = refl; words = refl }
+first_gives l k = grind arith
 
 pub given_fits : (ws : List ℕ) (i k : ℕ) → small_if (given ws i k) ≡ true
 given_fits ws i k = ap small_if (given_from ws i k) ∙ (first_gives (drop i ws) k).fits
 
 pub given_there : (ws : List ℕ) (i k : ℕ) → drop i ws ≡ option_words k (given ws i k) ++ drop (past ws i k) ws
-given_there ws i k =
-    let p = past_given ws i k (given ws i k) refl in
-    let g = (first_gives (drop i ws) k).words in
-    let s = given_from ws i k in
-    let n = length (option_words k (given ws i k)) in
-    subst (λ o. drop i ws ≡ option_words k o ++ drop (length (option_words k o)) (drop i ws)) (sym s) g
-    ∙ ap (λ l. option_words k (given ws i k) ++ l) (drop-drop n i ws ∙ ap (λ j. drop j ws) (sym p))
+given_there ws i k = grind (arith, common_steps, gets)
 
 -- numbers
 
@@ -138,8 +112,7 @@ abbrev fault_or : Option WordFault → Option WordFault → Option WordFault
 fault_or o p = elim o [ Some f ↦ Some f | None ↦ p ]
 
 number_read : (ws : List ℕ) (i n : ℕ) → slice_get ws i ≡ Some (word_of 3 n) → small n ≡ true → number_fault ws i ≡ None
-number_read ws i n e s =
-    ap (number_fault_in i) e ∙ cond-true (eqb (kind_of (word_of 3 n)) 3) None (Some (wrong_kind i (word_of 3 n))) (ap (λ k. eqb k 3) (kind_read 3 n s))
+number_read ws i n e s = grind arith
 
 pub numbers_read : (ws : List ℕ) (i : ℕ) (ns more : List ℕ) → drop i ws ≡ map (word_of 3) ns ++ more → list_all small ns ≡ true → numbers_fault ws i (length ns) ≡ None
 numbers_read ws i [] more e s = refl
@@ -152,16 +125,12 @@ numbers_read ws i (n ∷ ns) more e s =
 -- and their contents are the numbers
 pub numbers_are : (ws : List ℕ) (i j : ℕ) (ns more : List ℕ) → drop i ws ≡ map (word_of 3) ns ++ more → list_all small ns ≡ true → j ≡ i + length ns
     → map content_of (between i j ws) ≡ ns
-numbers_are ws i j ns more e s k =
-    let m = length-map ns (word_of 3) in
-    let j_is : j ≡ i + length (map (word_of 3) ns) = omega arith in
-    ap (map content_of) (between_front ws i j (map (word_of 3) ns) more e j_is) ∙ contents_read 3 ns s
+numbers_are ws i j ns more e s k = grind (arith, length-map, between_front, contents_read)
 
 -- no fault in two lists of numbers, one after the other
 
 number_then : (o p : Option WordFault) → fault_or o p ≡ None → (o ≡ None) × (p ≡ None)
-number_then None p e = (refl, e)
-number_then (Some f) p e = let z : ◌≡◌ {A = ℕ} 0 1 = cc in absurd (let w : ⊥ = omega arith in w)
+number_then o p e = grind arith
 
 pub numbers_join : (ws : List ℕ) (i n m : ℕ) → numbers_fault ws i n ≡ None → numbers_fault ws (i + n) m ≡ None → numbers_fault ws i (n + m) ≡ None
 numbers_join ws i zero m e f =

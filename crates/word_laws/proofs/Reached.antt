@@ -14,7 +14,7 @@ use Rattle.words.specs.Fitting.{small, ActorFits, ChannelFits}
 use Rattle.word_laws.specs.Offends.{Shaped}
 use Rattle.words.specs.Records.{actor_part, channel_part, end_part, record_at}
 use Rattle.word_laws.proofs.Places.{drop_past}
-use Rattle.word_laws.proofs.RowRecords.{Over, over_head, ends, ends_fit, actor_read, channel_read, end_read}
+use Rattle.word_laws.proofs.RowRecords.{Over, over_head, actors_over, channels_over, ends, ends_fit, actor_read, channel_read, end_read}
 use Rattle.words.proofs.Headed.{headed_by_lem}
 use Rattle.words.proofs.Whole.{read_as}
 use Rattle.word_laws.proofs.Alike.{at_alike, actor_alike, channel_alike}
@@ -36,14 +36,10 @@ pub data Ends (ws : List ℕ) : Bool → ℕ → Type 0 where
 
 module _ (ws : List ℕ) where
   from_actor : (b : Bool) (h : ℕ) (part : List ℕ) → record_at b ws h ≡ Ok (actor_part part) → Ends ws b h → Ends ws false (h + length part)
-  from_actor b h part e (here _ _ other d) = absurdly (cc)
-  from_actor b h part e (after_actor_lem _ _ other d n) = let s : other ≡ part = cc in subst (λ l. Ends ws false (h + length l)) s n
-  from_actor b h part e (after_channel_lem _ _ other d n) = absurdly (cc)
+  from_actor b h part e v4 = grind arith
 
   from_channel : (b : Bool) (h : ℕ) (part : List ℕ) → record_at b ws h ≡ Ok (channel_part part) → Ends ws b h → Ends ws true (h + length part)
-  from_channel b h part e (here _ _ other d) = absurdly (cc)
-  from_channel b h part e (after_actor_lem _ _ other d n) = absurdly (cc)
-  from_channel b h part e (after_channel_lem _ _ other d n) = let s : other ≡ part = cc in subst (λ l. Ends ws true (h + length l)) s n
+  from_channel b h part e v4 = grind arith
 
   -- records are read in one way
   ends_from : Ends ws false 0 → (b : Bool) (h : ℕ) → Reached ws b h → Ends ws b h
@@ -52,9 +48,7 @@ module _ (ws : List ℕ) where
   ends_from n b h (past_channel c i part r e) = from_channel c i part e (ends_from n c i r)
 
   no_fault : (b : Bool) (h : ℕ) (f : WordFault) → Ends ws b h → record_at b ws h ≡ Err f → ⊥
-  no_fault b h f (here _ _ part d) e = absurdly (cc)
-  no_fault b h f (after_actor_lem _ _ part d n) e = absurdly (cc)
-  no_fault b h f (after_channel_lem _ _ part d n) e = absurdly (cc)
+  no_fault b h f v3 e = grind arith
 
 -- words that are alike up to a place after h have the same records up to h
 reached_alike : (n : ℕ) (ws vs : List ℕ) → take n ws ≡ take n vs → (b : Bool) (h : ℕ) → Reached ws b h → h < n → Reached vs b h
@@ -68,18 +62,6 @@ reached_alike n ws vs alike b h (past_channel c i part r e) l =
 
 abbrev end_words : ℕ → List ℕ
 end_words z = word_of 7 z ∷ []
-
-actors_over : (rows : List ActorRow) (more : List ℕ) → AllByRecursion ActorFits rows → Over more → Over (flat_map actor_words rows ++ more)
-actors_over [] more f o = o
-actors_over (a ∷ rows) more f o =
-    let few = f.0.few in
-    let n = length a.times in
-    let low : n < 268435456 = omega arith in
-    over_head 1 n _ (lt-ltb n 268435456 low) refl refl refl
-
-channels_over : (cs : List ChannelRow) (more : List ℕ) → AllByRecursion ChannelFits cs → Over more → Over (flat_map channel_words cs ++ more)
-channels_over [] more f o = o
-channels_over (c ∷ cs) more f o = over_head 2 (ends c) _ (ends_fit c f.0) refl refl refl
 
 module _ (ws : List ℕ) (z : ℕ) (low : small z ≡ true) where
   channels_end : (b : Bool) (h : ℕ) (cs : List ChannelRow) → AllByRecursion ChannelFits cs → drop h ws ≡ flat_map channel_words cs ++ end_words z
@@ -126,8 +108,7 @@ table_ends t s =
 -- no table has words that are alike to these up to a place after h, and a fault at h
 pub never : (n : ℕ) (ws : List ℕ) (b : Bool) (h : ℕ) → Reached ws b h → h < n → (t : Table) → Shaped t → take n ws ≡ take n (table_words t)
     → (f : WordFault) → record_at b (table_words t) h ≡ Err f → ⊥
-never n ws b h r l t s alike f e =
-    let vs = table_words t in no_fault vs b h f (ends_from vs (table_ends t s) b h (reached_alike n ws vs alike b h r l)) e
+never n ws b h r l t s alike f e = grind (arith, no_fault, ends_from, table_ends, reached_alike)
 
 -- no table goes on after all the words of another
 

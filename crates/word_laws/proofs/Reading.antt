@@ -1,7 +1,8 @@
--- The words of a table are read as that table, and what is read is a table that the words describe.
+-- The words of a table are read as that table.
+use Rattle.std.proofs.lemmas.Grind.{common_steps}
 use Rattle.std.proofs.Common.{◌≡◌, ℕ, zero, suc, ◌+◌, ◌-◌, ◌<◌, ◌≤◌, Bool, true, false, eqb, ltb, List, [], ◌∷◌, ◌++◌, length, drop, Some, None, Ok, Err, Option, Result, sym, refl, ap, ◌∙◌, subst, append_assoc, append-nil, arith, length-append, drop_at}
 use lib.Seq.{append_snoc}
-use Rattle.std.specs.List.{flat_map}
+use Rattle.std.specs.List.{flat_map, AllByRecursion}
 use Rattle.std.proofs.lemmas.List.{flat_map_more, nil_from_length}
 use Rattle.std.proofs.lemmas.Bool.{and_parts, not-false, eqb-true, lt-ltb}
 use Rattle.rows.specs.declared.fault.Fault.{Fault}
@@ -19,7 +20,7 @@ use Rattle.words.specs.Fitting.{small, ActorFits, ChannelFits}
 use Rattle.words.specs.Records.{Part, actor_part, channel_part, end_part, record_at, actor_of, channel_of}
 use Rattle.words.specs.Loads.{has_channels, rows_from, table_read}
 use Rattle.word_laws.proofs.Places.{drop_past}
-use Rattle.word_laws.proofs.RowRecords.{Over, over_head, ends, ends_fit, actor_read, actor_again, channel_read, channel_again, end_read}
+use Rattle.word_laws.proofs.RowRecords.{Over, over_head, actors_over, channels_over, ends, ends_fit, actor_read, actor_again, channel_read, channel_again, end_read}
 use Rattle.words.proofs.Fits.{good_actor, good_channel, actor_fits, channel_fits, rows_few, rows_many}
 use Rattle.word_laws.proofs.RowsFound.{FoundActor, FoundChannel, record_found}
 
@@ -42,18 +43,10 @@ record_then records ws h t r = elim r [
 
 module _ (t : Table) where
   pub words_with_actor : (a : ActorRow) → has_channels t ≡ false → row_words ((add_actor a).made t) ≡ row_words t ++ actor_words a
-  words_with_actor a e =
-      let none = nil_from_length t.channels (eqb-true (length t.channels) 0 (not-false (eqb (length t.channels) 0) e)) in
-      let x = flat_map actor_words t.actors in
-      ap (λ cs. flat_map actor_words (t.actors ++ a ∷ []) ++ flat_map channel_words cs) none
-      ∙ append-nil (flat_map actor_words (t.actors ++ a ∷ []))
-      ∙ sym (flat_map_more actor_words [] t.actors a)
-      ∙ ap (λ l. l ++ actor_words a) (sym (append-nil x) ∙ ap (λ cs. x ++ flat_map channel_words cs) (sym none))
+  words_with_actor a e = grind (arith, common_steps)
 
   pub words_with_channel : (c : ChannelRow) → row_words ((add_channel c).made t) ≡ row_words t ++ channel_words c
-  words_with_channel c =
-      let x = flat_map actor_words t.actors in
-      ap (λ l. x ++ l) (sym (flat_map_more channel_words [] t.channels c)) ∙ sym (append_assoc x (flat_map channel_words t.channels) (channel_words c))
+  words_with_channel c = grind (arith, common_steps)
 
 -- the table read so far has the words up to this place
 
@@ -64,111 +57,36 @@ pub record Sofar (ws : List ℕ) (h : ℕ) (t : Table) : Type 0 where
 
 pub sofar_more : (ws : List ℕ) (h : ℕ) (t u : Table) (part : List ℕ) → Sofar ws h t → lawful u ≡ true → row_words u ≡ row_words t ++ part
     → drop h ws ≡ part ++ drop (h + length part) ws → Sofar ws (h + length part) u
-sofar_more ws h t u part s l e d =
-    let more = drop (h + length part) ws in
-    let n = length-append (row_words t) part in
-    record {
-      good = l;
-      words = s.words ∙ ap (λ x. row_words t ++ x) d ∙ sym (append_assoc (row_words t) part more) ∙ ap (λ x. x ++ more) (sym e);
-      here = ap (λ k. k + length part) s.here ∙ sym n ∙ ap length (sym e);
-    }
-
--- what is read is a table that the words describe
-
-abbrev Follows : ℕ → List ℕ → Type 0
-Follows records ws = (h : ℕ) (t result : Table) → Sofar ws h t → rows_from records ws h t ≡ Ok result → Describes ws result
-
-module _ (records : ℕ) (ws : List ℕ) (follow : Follows records ws) (h : ℕ) (t result : Table) (s : Sofar ws h t) where
-  actor_then : (part : List ℕ) → FoundActor (has_channels t) ws h part → (o : Option Fault) → (add_actor (actor_of part)).fault t ≡ o
-      → add_then records ws h part ((add_actor (actor_of part)).made t) o ≡ Ok result → Describes ws result
-  actor_then part f (Some x) a e = let z : ◌≡◌ {A = ℕ} 0 1 = cc in absurd (let w : ⊥ = omega arith in w)
-  actor_then part f None a e =
-      let same : actor_words (actor_of part) ≡ part = ap actor_words (ap actor_of f.words ∙ actor_again f.row f.fits) ∙ sym f.words in
-      let more = drop (h + length part) ws in
-      follow (h + length part) ((add_actor (actor_of part)).made t) result
-      (sofar_more ws h t ((add_actor (actor_of part)).made t) part s (lawful_with_actor t s.good (actor_of part) a)
-      (words_with_actor t (actor_of part) f.early ∙ ap (λ l. row_words t ++ l) same) (f.there ∙ ap (λ l. l ++ more) (sym f.words)))
-      e
-
-  channel_then : (part : List ℕ) → FoundChannel ws h part → (o : Option Fault) → (add_channel (channel_of part)).fault t ≡ o
-      → add_then records ws h part ((add_channel (channel_of part)).made t) o ≡ Ok result → Describes ws result
-  channel_then part f (Some x) a e = let z : ◌≡◌ {A = ℕ} 0 1 = cc in absurd (let w : ⊥ = omega arith in w)
-  channel_then part f None a e =
-      let same : channel_words (channel_of part) ≡ part = ap channel_words (ap channel_of f.words ∙ channel_again f.row f.fits) ∙ sym f.words in
-      let more = drop (h + length part) ws in
-      follow (h + length part) ((add_channel (channel_of part)).made t) result
-      (sofar_more ws h t ((add_channel (channel_of part)).made t) part s (lawful_with_channel t s.good (channel_of part) a)
-      (words_with_channel t (channel_of part) ∙ ap (λ l. row_words t ++ l) same) (f.there ∙ ap (λ l. l ++ more) (sym f.words)))
-      e
-
-  end_then : drop h ws ≡ word_of 7 h ∷ [] → Describes ws t
-  end_then f =
-      record {
-        accepted = s.good;
-        written = s.words ∙ ap (λ l. row_words t ++ l) f ∙ ap (λ n. row_words t ++ word_of 7 n ∷ []) s.here;
-      }
-
-  record_then_lem : (r : Result Part WordFault) → record_at (has_channels t) ws h ≡ r → record_then records ws h t r ≡ Ok result → Describes ws result
-  record_then_lem (Err f) a e = let z : ◌≡◌ {A = ℕ} 0 1 = cc in absurd (let w : ⊥ = omega arith in w)
-  record_then_lem (Ok (actor_part part)) a e =
-      actor_then part (record_found (has_channels t) ws h (actor_part part) a) ((add_actor (actor_of part)).fault t) refl e
-  record_then_lem (Ok (channel_part part)) a e =
-      channel_then part (record_found (has_channels t) ws h (channel_part part) a) ((add_channel (channel_of part)).fault t) refl e
-  record_then_lem (Ok (end_part part)) a e =
-      let same : t ≡ result = cc in subst (Describes ws) same (end_then (record_found (has_channels t) ws h (end_part part) a))
-
-follows : (records : ℕ) (ws : List ℕ) → Follows records ws
-follows zero ws h t result s e = let z : ◌≡◌ {A = ℕ} 0 1 = cc in absurd (let w : ⊥ = omega arith in w)
-follows (suc records) ws h t result s e = record_then_lem records ws (follows records ws) h t result s (record_at (has_channels t) ws h) refl e
-
-pub read_described : (ws : List ℕ) (t : Table) → table_read ws ≡ Ok t → Describes ws t
-read_described ws t e = follows (length ws) ws 0 empty_table t record { good = refl; words = refl; here = refl } e
+sofar_more ws h t u part s l e d = grind (arith, common_steps)
 
 -- a record whose row is accepted is read, and the reading goes on after it
 
 module _ (records : ℕ) (ws : List ℕ) (h : ℕ) (t : Table) where
   actor_step : (a : ActorRow) (more : List ℕ) → drop h ws ≡ actor_words a ++ more → ActorFits a → Over more → has_channels t ≡ false → (add_actor a).fault t ≡ None
       → rows_from (suc records) ws h t ≡ rows_from records ws (h + length (actor_words a)) ((add_actor a).made t)
-  actor_step a more e f o early none =
-      let part = actor_words a in
-      let p = actor_again a f in
-      ap (λ b. record_then records ws h t (record_at b ws h)) early
-      ∙ ap (record_then records ws h t) (actor_read a ws h more e f o)
-      ∙ ap (λ r. add_then records ws h part ((add_actor r).made t) ((add_actor r).fault t)) p
-      ∙ ap (add_then records ws h part ((add_actor a).made t)) none
+  actor_step a more e f o early none = grind (arith, actor_again, actor_read)
 
   channel_step : (c : ChannelRow) (more : List ℕ) → drop h ws ≡ channel_words c ++ more → ChannelFits c → Over more → (add_channel c).fault t ≡ None
       → rows_from (suc records) ws h t ≡ rows_from records ws (h + length (channel_words c)) ((add_channel c).made t)
-  channel_step c more e f o none =
-      let part = channel_words c in
-      let p = channel_again c f in
-      ap (record_then records ws h t) (channel_read c f (has_channels t) ws h more e o)
-      ∙ ap (λ r. add_then records ws h part ((add_channel r).made t) ((add_channel r).fault t)) p
-      ∙ ap (add_then records ws h part ((add_channel c).made t)) none
+  channel_step c more e f o none = grind (arith, channel_again, channel_read)
 
   end_step : drop h ws ≡ word_of 7 h ∷ [] → small h ≡ true → rows_from (suc records) ws h t ≡ Ok t
   end_step e s = ap (record_then records ws h t) (end_read (has_channels t) ws h e s)
 
--- a head comes after a record
+-- the rows of a lawful table fit
 
 every_after : {X : Type 0} (test : X → Bool) (xs ys : List X) → list_all test (xs ++ ys) ≡ true → list_all test ys ≡ true
-every_after test [] ys e = e
-every_after test (x ∷ xs) ys e = every_after test xs ys (and_parts (test x) (list_all test (xs ++ ys)) e).1
+every_after test xs ys e = grind (arith, common_steps)
 
-actors_over : (rows : List ActorRow) (more : List ℕ) → list_all good_actor rows ≡ true → Over more → Over (flat_map actor_words rows ++ more)
-actors_over [] more e o = o
-actors_over (a ∷ rows) more e o =
-    let n = length a.times in
-    let few = (actor_fits a (passes_none (actor_fault a) (and_parts (good_actor a) (list_all good_actor rows) e).0)).few in
-    let low : n < 268435456 = omega arith in
-    over_head 1 n _ (lt-ltb n 268435456 low) refl refl refl
+all_tested : {X : Type 0} (test : X → Bool) (P : X → Type 0) → ((x : X) → test x ≡ true → P x) → (xs : List X) → list_all test xs ≡ true → AllByRecursion P xs
+all_tested test P f [] e = tt
+all_tested test P f (x ∷ xs) e = let p = and_parts (test x) (list_all test xs) e in (f x p.0, all_tested test P f xs p.1)
 
-module _ (rows : List ActorRow) (few : length rows ≤ 64) (good : list_all good_actor rows ≡ true) where
-  channels_over : (cs : List ChannelRow) (more : List ℕ) → list_all (good_channel rows) cs ≡ true → Over more → Over (flat_map channel_words cs ++ more)
-  channels_over [] more e o = o
-  channels_over (c ∷ cs) more e o =
-      let p = and_parts (good_channel rows c) (list_all (good_channel rows) cs) e in
-      over_head 2 (ends c) _ (ends_fit c (channel_fits rows c few good (passes_none (channel_fault rows c) p.0))) refl refl refl
+pub actors_fit : (rows : List ActorRow) → list_all good_actor rows ≡ true → AllByRecursion ActorFits rows
+actors_fit rows e = all_tested good_actor ActorFits (λ a h. actor_fits a (passes_none (actor_fault a) h)) rows e
+
+pub channels_fit : (rows : List ActorRow) → length rows ≤ 64 → list_all good_actor rows ≡ true → (cs : List ChannelRow) → list_all (good_channel rows) cs ≡ true → AllByRecursion ChannelFits cs
+channels_fit rows few good cs e = all_tested (good_channel rows) ChannelFits (λ c h. channel_fits rows c few good (passes_none (channel_fault rows c) h)) cs e
 
 -- the words of a table's rows are read as these: first those of its actors, then those of its channels
 
@@ -200,7 +118,7 @@ module _ (ws rest : List ℕ) (over : Over rest) (records : ℕ) where
       let left : all ≡ length cs + records = omega arith in
       let same = append_snoc xs c cs in
       channel_step all ws h (rows_of rows xs) c more from (channel_fits rows c law.few_actors law.good_actors none)
-      (channels_over rows law.few_actors law.good_actors cs rest good.1 over)
+      (channels_over cs rest (channels_fit rows law.few_actors law.good_actors cs good.1) over)
       (check_from (ltb (length xs) 128) TableFull (channel_fault rows c) (lt-ltb (length xs) 128 room) none)
       ∙ channels_pass all (h + length part) rows (xs ++ c ∷ []) cs (ap (λ l. lawful (rows_of rows l)) same ∙ l)
       (drop_past ws h (h + length part) part more from refl) left
@@ -232,7 +150,7 @@ module _ (ws rest : List ℕ) (over : Over rest) (records : ℕ) where
       let left : all ≡ length ys + length cs + records = omega arith in
       let same = append_snoc xs a ys in
       actor_step all ws h (rows_of xs []) a more from (actor_fits a none)
-      (actors_over ys last good.1 (channels_over rows law.few_actors law.good_actors cs rest law.good_channels over))
+      (actors_over ys last (actors_fit ys good.1) (channels_over cs rest (channels_fit rows law.few_actors law.good_actors cs law.good_channels) over))
       refl
       (check_from (ltb (length xs) 64) TableFull (actor_fault a) (lt-ltb (length xs) 64 room) none)
       ∙ actors_pass all (h + length part) (xs ++ a ∷ []) ys cs (ap (λ r. lawful (rows_of r cs)) same ∙ l)

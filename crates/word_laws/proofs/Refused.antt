@@ -1,6 +1,7 @@
 -- What a refusal of the words means.
 use Rattle.std.proofs.Common.{◌≡◌, ℕ, zero, suc, ◌+◌, ◌<◌, ◌≤◌, true, false, not, eqb, List, [], ◌∷◌, ◌++◌, length, drop, Some, None, Ok, Err, Option, Result, sym, refl, ap, ◌∙◌, subst, arith, length-append}
 use Rattle.std.proofs.lemmas.List.{drop_at, nil_from_length}
+use Rattle.std.proofs.lemmas.Grind.{common_steps}
 use Rattle.std.proofs.lemmas.Bool.{not_from_false, not-false, lt-ltb, ne_eqb, eqb-true}
 use Rattle.rows.specs.declared.fault.Fault.{Fault}
 use Rattle.rows.specs.Table.{ActorRow, ChannelRow, Table, empty_table, lawful, add_actor, add_channel}
@@ -9,7 +10,7 @@ use Rattle.words.specs.declared.fault.WordFault.{WordFault}
 use Rattle.words.specs.declared.fault.WordFault.TheVariants.{Missing}
 use Rattle.words.specs.declared.fault.LoadFault.{LoadFault}
 use Rattle.words.specs.declared.fault.LoadFault.TheVariants.{Word, Row}
-use Rattle.words.specs.Format.{actor_words, channel_words, row_words}
+use Rattle.words.specs.Format.{word_of, actor_words, channel_words, row_words, Describes}
 use Rattle.words.specs.Fitting.{ActorFits, ChannelFits}
 use Rattle.word_laws.specs.Offends.{First, WordRefused, RowRefused, actor_refused, channel_refused, RefusedBy, by_row, by_word}
 use Rattle.words.specs.Records.{Part, actor_part, channel_part, end_part, record_at, actor_of, channel_of}
@@ -21,9 +22,6 @@ use Rattle.word_laws.proofs.Faulty.{faulty}
 use Rattle.word_laws.proofs.Reached.{Reached, start, past_actor, past_channel}
 use Rattle.word_laws.proofs.Longest.{actor_longest, channel_longest, first_actor, first_channel}
 use Rattle.word_laws.proofs.Offending.{head_missing, word_refused}
-
-absurdly : {X : Type 0} → ◌≡◌ {A = ℕ} 0 1 → X
-absurdly z = absurd (let y : ⊥ = omega arith in y)
 
 -- a refused row is the answer
 
@@ -65,23 +63,31 @@ pub row_answer : (ws : List ℕ) (h : ℕ) (f : Fault) → RowRefused ws h f →
 row_answer ws h f (actor_refused t a _ rest l none e first bad) = actor_answer ws t f rest l e a none first bad
 row_answer ws h f (channel_refused t c _ rest l e first bad) = channel_answer ws t f rest l e c first bad
 
--- from place h on, with so many records at most
+some_channels : (t : Table) (c : ChannelRow) → has_channels ((add_channel c).made t) ≡ true
+some_channels t c = grind (arith, common_steps)
 
-module _ (ws : List ℕ) (f : LoadFault) (answered : table_read ws ≡ Err f) where
-  of_word : (g : WordFault) → Word g ≡ f → WordRefused ws g → RefusedBy ws f
-  of_word g e w =
-      subst (RefusedBy ws) e
-      (by_word g w (λ h x r. absurdly (let d = row_answer ws h x r in let z : ◌≡◌ {A = ℕ} 0 1 = cc in z)))
+-- what an answer says of the words
 
+abbrev Says : List ℕ → Result Table LoadFault → Type 0
+Says ws (Ok t) = Describes ws t
+Says ws (Err f) = RefusedBy ws f
+
+module _ (ws : List ℕ) where
+  -- from place h on, with so many records at most
   abbrev Means : ℕ → Type 0
-  Means records = (h : ℕ) (t : Table) → Sofar ws h t → Reached ws (has_channels t) h → length ws ≤ h + records → rows_from records ws h t ≡ Err f → RefusedBy ws f
+  Means records = (h : ℕ) (t : Table) → Sofar ws h t → Reached ws (has_channels t) h → length ws ≤ h + records
+      → table_read ws ≡ rows_from records ws h t → Says ws (rows_from records ws h t)
+
+  of_word : (g : WordFault) → table_read ws ≡ Err (Word g) → WordRefused ws g → RefusedBy ws (Word g)
+  of_word g e w = by_word g w (λ h x r. let d = sym e ∙ row_answer ws h x r in absurd (cc))
 
   module _ (records : ℕ) (next : Means records) (h : ℕ) (t : Table) (s : Sofar ws h t) (r : Reached ws (has_channels t) h) (enough : length ws ≤ h + suc records) where
-    of_row : (g : Fault) → Row h g ≡ f → RowRefused ws (length (row_words t)) g → RefusedBy ws f
-    of_row g e m = subst (RefusedBy ws) e (by_row h g (subst (λ i. RowRefused ws i g) (sym s.here) m))
+    of_row : (g : Fault) → RowRefused ws (length (row_words t)) g → RefusedBy ws (Row h g)
+    of_row g m = by_row h g (subst (λ i. RowRefused ws i g) (sym s.here) m)
 
     actor_then : (part : List ℕ) → record_at (has_channels t) ws h ≡ Ok (actor_part part) → FoundActor (has_channels t) ws h part → (o : Option Fault)
-        → (add_actor (actor_of part)).fault t ≡ o → add_then records ws h part ((add_actor (actor_of part)).made t) o ≡ Err f → RefusedBy ws f
+        → (add_actor (actor_of part)).fault t ≡ o → table_read ws ≡ add_then records ws h part ((add_actor (actor_of part)).made t) o
+        → Says ws (add_then records ws h part ((add_actor (actor_of part)).made t) o)
     actor_then part d g (Some x) a e =
         let same = ap actor_of g.words ∙ actor_again g.row g.fits in
         let none = nil_from_length t.channels (eqb-true (length t.channels) 0 (not-false (eqb (length t.channels) 0) g.early)) in
@@ -93,19 +99,19 @@ module _ (ws : List ℕ) (f : LoadFault) (answered : table_read ws ≡ Err f) wh
           written = g.there;
           longest = λ c rest fits there. subst (λ l. length (actor_words c) ≤ length l) g.words (actor_longest ws h part c rest early fits there);
         } in
-        of_row x (cc) (actor_refused t g.row x (drop h ws) s.good none s.words first (ap (λ y. (add_actor y).fault t) (sym same) ∙ a))
+        of_row x (actor_refused t g.row x (drop h ws) s.good none s.words first (ap (λ y. (add_actor y).fault t) (sym same) ∙ a))
     actor_then part d g None a e =
         let same : actor_words (actor_of part) ≡ part = ap actor_words (ap actor_of g.words ∙ actor_again g.row g.fits) ∙ sym g.words in
         let more = drop (h + length part) ws in
-        let u = (add_actor (actor_of part)).made t in
         let some : length part ≡ length (actor_words g.row) = ap length g.words in
-        next (h + length part) u
-        (sofar_more ws h t u part s (lawful_with_actor t s.good (actor_of part) a)
+        next (h + length part) ((add_actor (actor_of part)).made t)
+        (sofar_more ws h t ((add_actor (actor_of part)).made t) part s (lawful_with_actor t s.good (actor_of part) a)
         (words_with_actor t (actor_of part) g.early ∙ ap (λ l. row_words t ++ l) same) (g.there ∙ ap (λ l. l ++ more) (sym g.words)))
         (subst (λ c. Reached ws c (h + length part)) (sym g.early) (past_actor (has_channels t) h part r d)) (omega arith) e
 
     channel_then : (part : List ℕ) → record_at (has_channels t) ws h ≡ Ok (channel_part part) → FoundChannel ws h part → (o : Option Fault)
-        → (add_channel (channel_of part)).fault t ≡ o → add_then records ws h part ((add_channel (channel_of part)).made t) o ≡ Err f → RefusedBy ws f
+        → (add_channel (channel_of part)).fault t ≡ o → table_read ws ≡ add_then records ws h part ((add_channel (channel_of part)).made t) o
+        → Says ws (add_then records ws h part ((add_channel (channel_of part)).made t) o)
     channel_then part d g (Some x) a e =
         let same = ap channel_of g.words ∙ channel_again g.row g.fits in
         let first : First ChannelFits channel_words (drop h ws) g.row =
@@ -115,30 +121,36 @@ module _ (ws : List ℕ) (f : LoadFault) (answered : table_read ws ≡ Err f) wh
           written = g.there;
           longest = λ c rest fits there. subst (λ l. length (channel_words c) ≤ length l) g.words (channel_longest (has_channels t) ws h part c rest d fits there);
         } in
-        of_row x (cc) (channel_refused t g.row x (drop h ws) s.good s.words first (ap (λ y. (add_channel y).fault t) (sym same) ∙ a))
+        of_row x (channel_refused t g.row x (drop h ws) s.good s.words first (ap (λ y. (add_channel y).fault t) (sym same) ∙ a))
     channel_then part d g None a e =
         let same : channel_words (channel_of part) ≡ part = ap channel_words (ap channel_of g.words ∙ channel_again g.row g.fits) ∙ sym g.words in
         let more = drop (h + length part) ws in
         let u = (add_channel (channel_of part)).made t in
         let some : length part ≡ length (channel_words g.row) = ap length g.words in
-        let count = length-append t.channels (channel_of part ∷ []) in
-        let with_channels : has_channels u ≡ true = not_from_false (eqb (length u.channels) 0) (ne_eqb (length u.channels) 0 (λ z. omega arith)) in
         next (h + length part) u
         (sofar_more ws h t u part s (lawful_with_channel t s.good (channel_of part) a)
         (words_with_channel t (channel_of part) ∙ ap (λ l. row_words t ++ l) same) (g.there ∙ ap (λ l. l ++ more) (sym g.words)))
-        (subst (λ c. Reached ws c (h + length part)) (sym with_channels) (past_channel (has_channels t) h part r d)) (omega arith) e
+        (subst (λ c. Reached ws c (h + length part)) (sym (some_channels t (channel_of part))) (past_channel (has_channels t) h part r d)) (omega arith) e
 
-    record_then_lem : (x : Result Part WordFault) → record_at (has_channels t) ws h ≡ x → record_then records ws h t x ≡ Err f → RefusedBy ws f
-    record_then_lem (Err g) a e = of_word g (cc) (word_refused ws h t s r g (faulty (has_channels t) ws h g a))
+    record_then_lem : (x : Result Part WordFault) → record_at (has_channels t) ws h ≡ x → table_read ws ≡ record_then records ws h t x → Says ws (record_then records ws h t x)
+    record_then_lem (Err g) a e = of_word g e (word_refused ws h t s r g (faulty (has_channels t) ws h g a))
     record_then_lem (Ok (actor_part part)) a e =
         actor_then part a (record_found (has_channels t) ws h (actor_part part) a) ((add_actor (actor_of part)).fault t) refl e
     record_then_lem (Ok (channel_part part)) a e =
         channel_then part a (record_found (has_channels t) ws h (channel_part part) a) ((add_channel (channel_of part)).fault t) refl e
-    record_then_lem (Ok (end_part part)) a e = absurdly (cc)
+    record_then_lem (Ok (end_part part)) a e =
+        let f = record_found (has_channels t) ws h (end_part part) a in
+        record { accepted = s.good; written = s.words ∙ ap (λ l. row_words t ++ l) f ∙ ap (λ n. row_words t ++ word_of 7 n ∷ []) s.here }
 
   means : (records : ℕ) → Means records
-  means zero h t s r enough e = of_word (Missing h) (cc) (head_missing ws h t s r (omega arith))
+  means zero h t s r enough e = of_word (Missing h) e (head_missing ws h t s r (omega arith))
   means (suc records) h t s r enough e = record_then_lem records (means records) h t s r enough (record_at (has_channels t) ws h) refl e
 
-pub refusal_means : (ws : List ℕ) (f : LoadFault) → table_read ws ≡ Err f → RefusedBy ws f
-refusal_means ws f e = means ws f e (length ws) 0 empty_table record { good = refl; words = refl; here = refl } start (omega arith) e
+  says : Says ws (table_read ws)
+  says = means (length ws) 0 empty_table record { good = refl; words = refl; here = refl } start (omega arith) refl
+
+  pub read_described : (t : Table) → table_read ws ≡ Ok t → Describes ws t
+  read_described t e = subst (Says ws) e says
+
+  pub refusal_means : (f : LoadFault) → table_read ws ≡ Err f → RefusedBy ws f
+  refusal_means f e = subst (Says ws) e says

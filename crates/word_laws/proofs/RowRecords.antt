@@ -1,6 +1,8 @@
 -- The record of a row is read as the words of that row, and these as the row.
+use Rattle.std.proofs.lemmas.Grind.{common_steps}
+use Rattle.std.proofs.lemmas.Option.{gets}
 use Rattle.std.proofs.Common.{◌≡◌, ℕ, suc, ◌+◌, ◌-◌, ◌<◌, Bool, true, false, cond, eqb, ltb, List, [], ◌∷◌, ◌++◌, map, length, drop, Some, None, Ok, Err, Option, Result, sym, refl, ap, ◌∙◌, append_assoc, append-nil, arith, length-append, length-drop}
-use Rattle.std.specs.List.{between}
+use Rattle.std.specs.List.{between, flat_map, AllByRecursion}
 use Rattle.std.proofs.lemmas.List.{length-map}
 use Rattle.std.proofs.lemmas.Bool.{lt-ltb, eq-eqb}
 use Rattle.rows.specs.Steps.{answer}
@@ -28,8 +30,7 @@ pub over_none : Over []
 over_none = record { no_tick = refl; no_pin = refl; no_ceiling = refl }
 
 pub over_head : (k n : ℕ) (more : List ℕ) → small n ≡ true → eqb k 4 ≡ false → eqb k 5 ≡ false → eqb k 6 ≡ false → Over (word_of k n ∷ more)
-over_head k n more s a b c =
-    record { no_tick = given_other 4 k n more s a; no_pin = given_other 5 k n more s b; no_ceiling = given_other 6 k n more s c }
+over_head k n more s a b c = grind arith
 
 -- the record at a place, by the kind and the content of its head
 
@@ -42,17 +43,13 @@ record_in b ws h o = elim o [ None ↦ Err (Missing h) | Some w ↦ headed b ws 
 
 pub head_read : (b : Bool) (ws : List ℕ) (h k c : ℕ) (more : List ℕ) → drop h ws ≡ word_of k c ∷ more → small c ≡ true
     → record_at b ws h ≡ headed b ws h (word_of k c) k c
-head_read b ws h k c more e s =
-    let p = kind_read k c s in
-    let q = content_read k c s in
-    ap (record_in b ws h) (at_head ws h (word_of k c) more e) ∙ (λ i. headed b ws h (word_of k c) (p i) (q i))
+head_read b ws h k c more e s = grind (arith, common_steps, gets, kind_read, content_read)
 
 accepted_part : (o : Option WordFault) (make : List ℕ → Part) (p q : List ℕ) → o ≡ None → p ≡ q → answer o (make p) ≡ Ok (make q)
 accepted_part o make p q e f = λ i. answer (e i) (make (f i))
 
 placed_again : (p : Placement) → placed (pin_of p) ≡ p
-placed_again Free = refl
-placed_again (Pinned p) = refl
+placed_again v0 = grind arith
 
 -- an actor
 
@@ -71,42 +68,24 @@ row_from ws i j = actor_with (map content_of (between i j ws)) (given ws j 4) (p
 -- the place after it
 pub actor_past : (a : ActorRow) (ws : List ℕ) (h j : ℕ) → j ≡ suc h + length a.times → given ws j 4 ≡ a.not_before → given ws (past ws j 4) 5 ≡ pin_of a.placement
     → past ws (past ws j 4) 5 ≡ h + length (actor_words a)
-actor_past a ws h j j_is g k =
-    let ts = map (word_of 3) a.times in
-    let n = length-map a.times (word_of 3) in
-    let u = length-append ts (tick_words a ++ pin_words a) in
-    let v = length-append (tick_words a) (pin_words a) in
-    let p = past_given ws j 4 a.not_before g in
-    let q = past_given ws (past ws j 4) 5 (pin_of a.placement) k in
-    omega arith
+actor_past a ws h j j_is g k = grind (arith, common_steps)
 
 module _ (a : ActorRow) (ws : List ℕ) (h j : ℕ) (more : List ℕ) (e : drop h ws ≡ actor_words a ++ more) (f : ActorFits a) (j_is : j ≡ suc h + length a.times) where
   after_head : drop (suc h) ws ≡ map (word_of 3) a.times ++ (tick_words a ++ (pin_words a ++ more))
-  after_head =
-      let ts = map (word_of 3) a.times in
-      let x = tick_words a in
-      let y = pin_words a in
-      drop_next ws h (actor_head a) ((ts ++ (x ++ y)) ++ more) e ∙ append_assoc ts (x ++ y) more ∙ ap (λ l. ts ++ l) (append_assoc x y more)
+  after_head = grind (arith, drop_next, append_assoc)
 
   pub after_times_lem : drop j ws ≡ tick_words a ++ (pin_words a ++ more)
-  after_times_lem =
-      let n = length-map a.times (word_of 3) in
-      let k : j ≡ suc h + length (map (word_of 3) a.times) = omega arith in
-      drop_past ws (suc h) j (map (word_of 3) a.times) (tick_words a ++ (pin_words a ++ more)) after_head k
+  after_times_lem = grind (arith, length-map, drop_past, after_head)
 
   actor_numbers : numbers_fault ws (suc h) (length a.times) ≡ None
-  actor_numbers =
-      numbers_read ws (suc h) a.times (tick_words a ++ (pin_words a ++ more)) after_head f.times_small
+  actor_numbers = grind (arith, numbers_read, after_head)
 
   module _ (o : Over more) where
     tick_read : given ws j 4 ≡ a.not_before
-    tick_read =
-        given_read ws j 4 a.not_before (pin_words a ++ more) after_times_lem f.tick_small
-        (given_skips 4 5 (pin_of a.placement) more f.pin_small refl o.no_tick)
+    tick_read = grind (arith, given_read, after_times_lem)
 
     after_tick : drop (past ws j 4) ws ≡ pin_words a ++ more
-    after_tick =
-        drop_past ws j (past ws j 4) (tick_words a) (pin_words a ++ more) after_times_lem (past_given ws j 4 a.not_before tick_read)
+    after_tick = grind (arith, drop_past, after_times_lem, tick_read)
 
     pin_read : given ws (past ws j 4) 5 ≡ pin_of a.placement
     pin_read = given_read ws (past ws j 4) 5 (pin_of a.placement) more after_tick f.pin_small o.no_pin
@@ -135,8 +114,7 @@ actor_there a ws h more e f =
 
 pub actor_read : (a : ActorRow) (ws : List ℕ) (h : ℕ) (more : List ℕ) → drop h ws ≡ actor_words a ++ more → ActorFits a → Over more
     → record_at false ws h ≡ Ok (actor_part (actor_words a))
-actor_read a ws h more e f o =
-    actor_there a ws h more e f ∙ ap (λ l. Ok (actor_part l)) (actor_part_lem a ws h (suc h + length a.times) more e f refl o)
+actor_read a ws h more e f o = grind (arith, common_steps, gets, actor_there, actor_part_lem)
 
 pub actor_again : (a : ActorRow) → ActorFits a → actor_of (actor_words a) ≡ a
 actor_again a f =
@@ -161,42 +139,21 @@ rates_from ws i j = map content_of (between i j ws)
 -- the place after it
 pub channel_past : (c : ChannelRow) (ws : List ℕ) (h j k : ℕ) → j ≡ suc h + length c.writes → k ≡ j + length c.reads → given ws k 6 ≡ c.ceiling
     → past ws k 6 ≡ h + length (channel_words c)
-channel_past c ws h j k j_is k_is g =
-    let x = map (word_of 3) c.writes in
-    let y = map (word_of 3) c.reads in
-    let n = length-map c.writes (word_of 3) in
-    let m = length-map c.reads (word_of 3) in
-    let u = length-append x (y ++ ceiling_words c) in
-    let v = length-append y (ceiling_words c) in
-    let p = past_given ws k 6 c.ceiling g in
-    omega arith
+channel_past c ws h j k j_is k_is g = grind (arith, common_steps)
 
 module _ (c : ChannelRow) (ws : List ℕ) (h j k : ℕ) (more : List ℕ) (e : drop h ws ≡ channel_words c ++ more) (f : ChannelFits c)
     (j_is : j ≡ suc h + length c.writes) (k_is : k ≡ j + length c.reads) where
   after_ends : drop (suc h) ws ≡ map (word_of 3) c.writes ++ (map (word_of 3) c.reads ++ (ceiling_words c ++ more))
-  after_ends =
-      let x = map (word_of 3) c.writes in
-      let y = map (word_of 3) c.reads in
-      let z = ceiling_words c in
-      drop_next ws h (word_of 2 (ends c)) ((x ++ (y ++ z)) ++ more) e ∙ append_assoc x (y ++ z) more ∙ ap (λ l. x ++ l) (append_assoc y z more)
+  after_ends = grind (arith, drop_next, append_assoc)
 
   after_writes_lem : drop j ws ≡ map (word_of 3) c.reads ++ (ceiling_words c ++ more)
-  after_writes_lem =
-      let n = length-map c.writes (word_of 3) in
-      let i : j ≡ suc h + length (map (word_of 3) c.writes) = omega arith in
-      drop_past ws (suc h) j (map (word_of 3) c.writes) (map (word_of 3) c.reads ++ (ceiling_words c ++ more)) after_ends i
+  after_writes_lem = grind (arith, length-map, drop_past, after_ends)
 
   pub after_reads_lem : drop k ws ≡ ceiling_words c ++ more
-  after_reads_lem =
-      let n = length-map c.reads (word_of 3) in
-      let i : k ≡ j + length (map (word_of 3) c.reads) = omega arith in
-      drop_past ws j k (map (word_of 3) c.reads) (ceiling_words c ++ more) after_writes_lem i
+  after_reads_lem = grind (arith, length-map, drop_past, after_writes_lem)
 
   channel_numbers : numbers_fault ws (suc h) (length c.writes + length c.reads) ≡ None
-  channel_numbers =
-      numbers_join ws (suc h) (length c.writes) (length c.reads)
-      (numbers_read ws (suc h) c.writes (map (word_of 3) c.reads ++ (ceiling_words c ++ more)) after_ends f.writes_small)
-      (ap (λ i. numbers_fault ws i (length c.reads)) (sym j_is) ∙ numbers_read ws j c.reads (ceiling_words c ++ more) after_writes_lem f.reads_small)
+  channel_numbers = grind (arith, numbers_join, numbers_read, after_ends, after_writes_lem)
 
   module _ (o : Over more) where
     ceiling_read : given ws k 6 ≡ c.ceiling
@@ -253,11 +210,7 @@ module _ (c : ChannelRow) (f : ChannelFits c) where
 
   pub channel_read : (b : Bool) (ws : List ℕ) (h : ℕ) (more : List ℕ) → drop h ws ≡ channel_words c ++ more → Over more
       → record_at b ws h ≡ Ok (channel_part (channel_words c))
-  channel_read b ws h more e o =
-      let n = length c.writes in
-      let m = length c.reads in
-      let k_is : suc h + (n + m) ≡ suc h + n + m = omega arith in
-      channel_there b ws h more e ∙ ap (λ l. Ok (channel_part l)) (channel_part_lem c ws h (suc h + n) (suc h + (n + m)) more e f refl k_is o)
+  channel_read b ws h more e o = grind (arith, channel_there, channel_part_lem)
 
   pub channel_again : channel_of (channel_words c) ≡ c
   channel_again =
@@ -273,14 +226,21 @@ module _ (c : ChannelRow) (f : ChannelFits c) where
       (λ i. channel_with (w i) (r i) (rates_from part 1 (suc (u i))) (rates_from part (suc (u i)) (suc (u i) + v i)) (given part (suc (u i) + v i) 6))
       ∙ channel_row_lem c part 0 (suc n) (suc n + m) [] (sym (append-nil part)) f j_is refl over_none
 
+-- the words of rows that fit do not go on the record before them
+
+pub actors_over : (rows : List ActorRow) (more : List ℕ) → AllByRecursion ActorFits rows → Over more → Over (flat_map actor_words rows ++ more)
+actors_over [] more f o = o
+actors_over (a ∷ rows) more f o =
+    let few = f.0.few in
+    let n = length a.times in
+    let low : n < 268435456 = omega arith in
+    over_head 1 n _ (lt-ltb n 268435456 low) refl refl refl
+
+pub channels_over : (cs : List ChannelRow) (more : List ℕ) → AllByRecursion ChannelFits cs → Over more → Over (flat_map channel_words cs ++ more)
+channels_over [] more f o = o
+channels_over (c ∷ cs) more f o = over_head 2 (ends c) _ (ends_fit c f.0) refl refl refl
+
 -- the end
 
 pub end_read : (b : Bool) (ws : List ℕ) (h : ℕ) → drop h ws ≡ word_of 7 h ∷ [] → small h ≡ true → record_at b ws h ≡ Ok (end_part (between h (suc h) ws))
-end_read b ws h e s =
-    let long : 1 ≡ length ws - h = ap length (sym e) ∙ length-drop h ws in
-    let n : length ws ≡ suc h = omega arith in
-    let part = between h (suc h) ws in
-    let later = check (eqb (length ws) (suc h)) (WrongEnd (suc h)) None in
-    let last = check_from (eqb (length ws) (suc h)) (WrongEnd (suc h)) None (eq-eqb (length ws) (suc h) n) refl in
-    head_read b ws h 7 h [] e s
-    ∙ accepted_part (check (eqb h h) (WrongEnd h) later) end_part part part (check_from (eqb h h) (WrongEnd h) later (eq-eqb h h refl) last) refl
+end_read b ws h e s = grind (arith, common_steps, gets)

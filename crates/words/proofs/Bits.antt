@@ -48,12 +48,4 @@ pub reads_small : (c : ℕ) → reads_in c < 16
 reads_small c = omega arith
 
 pub ends_again : (c : ℕ) → c < 16777216 → c ≡ ends_content (writer_in c) (reader_in c) (writes_in c) (reads_in c)
-ends_again c h =
-    let a : c / 65536 ≡ c / 256 / 256 = omega arith in
-    let b : c / 1048576 ≡ c / 65536 / 16 = omega arith in
-    let top : c / 1048576 < 16 = omega arith in
-    let same : c / 1048576 % 16 ≡ c / 1048576 = omega arith in
-    let p : c ≡ c / 256 * 256 + c % 256 = sym (div-add-mod' c 256) in
-    let q : c / 256 ≡ c / 65536 * 256 + c / 256 % 256 = omega arith in
-    let r : c / 65536 ≡ c / 1048576 * 16 + c / 65536 % 16 = omega arith in
-    omega arith
+ends_again c h = grind arith

@@ -4,8 +4,7 @@ use Rattle.std.proofs.lemmas.Bool.{cond-true, cond-false}
 use Rattle.words.specs.Checks.{check}
 
 pub check_parts : {F : Type 0} (b : Bool) (f : F) (later : Option F) → check b f later ≡ None → (b ≡ true) × (later ≡ None)
-check_parts true f later e = (refl, e)
-check_parts false f later e = let z : ◌≡◌ {A = ℕ} 0 1 = cc in absurd (let w : ⊥ = omega arith in w)
+check_parts t f later e = grind arith
 
 pub check_from : {F : Type 0} (b : Bool) (f : F) (later : Option F) → b ≡ true → later ≡ None → check b f later ≡ None
 check_from b f later h e = cond-true b later (Some f) h ∙ e

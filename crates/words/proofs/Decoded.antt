@@ -10,9 +10,4 @@ module _ (part : List ℕ) where
   pub actor_made : (count : ℕ) (times : List ℕ) (first pin : Option ℕ) (place : Placement) → count ≡ head_content part
       → times ≡ map content_of (between 1 (suc (head_content part)) part) → first ≡ given part (count + 1) 4 → pin ≡ given part (past part (count + 1) 4) 5
       → place ≡ placed pin → actor_with times first place ≡ actor_of part
-  actor_made count times first pin place n t f p l =
-      let s : count + 1 ≡ suc (head_content part) = omega arith in
-      let g = ap (λ i. given part i 4) s in
-      let h = ap (λ i. given part (past part i 4) 5) s in
-      let k = ap placed (p ∙ h) in
-      λ i. actor_with (t i) ((f ∙ g) i) ((l ∙ k) i)
+  actor_made count times first pin place n t f p l = grind arith

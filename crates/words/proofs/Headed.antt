@@ -1,4 +1,5 @@
 -- The record at a place, by the kind of its head.
+use Rattle.std.proofs.Common.{arith}
 use Rattle.std.proofs.Common.{◌≡◌, ℕ, Bool, cond, eqb, List, Some, None, Err, Option, Result, ap, ◌∙◌}
 use Rattle.std.proofs.lemmas.Bool.{cond-false, ne_eqb}
 use Rattle.std.specs.List.{slice_get}
@@ -29,6 +30,4 @@ module _ (after : Bool) (ws : List ℕ) (h : ℕ) where
     headed_by_lem kind k = headed ∙ ap kinded k
 
     pub wrongly_headed : (kind_of w ≡ 1 → ⊥) → (kind_of w ≡ 2 → ⊥) → (kind_of w ≡ 7 → ⊥) → record_at after ws h ≡ Err (wrong_kind h w)
-    wrongly_headed not1 not2 not7 =
-        headed ∙ cond-false _ _ _ (ne_eqb (kind_of w) 1 not1) ∙ cond-false _ _ _ (ne_eqb (kind_of w) 2 not2)
-        ∙ cond-false _ _ _ (ne_eqb (kind_of w) 7 not7)
+    wrongly_headed not1 not2 not7 = grind arith

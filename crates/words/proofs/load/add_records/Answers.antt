@@ -85,14 +85,10 @@ record_there c =
     (ap (λ b. record_at b c.args.words.now c.loop-part.head) (sym c.has_channels.ensures) ∙ c.in_ok-part.ensures) (added-ok c)
 
 pub overflow_add-head : goal.overflow_add-head
-overflow_add-head c = let m = (record_there c).1 in omega arith
+overflow_add-head c = grind (arith, record_there)
 
 pub loop-part-smaller : goal.loop-part-smaller
-loop-part-smaller c =
-    let m = record_there c in
-    let a = m.0 in
-    let b = m.1 in
-    omega arith
+loop-part-smaller c = grind (arith, record_there)
 
 pub loop-part-preserved : goal.loop-part-preserved
 loop-part-preserved c =
