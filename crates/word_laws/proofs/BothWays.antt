@@ -1,5 +1,5 @@
 -- Load takes exactly what the format describes, and save writes it.
-use Rattle.std.proofs.Common.{◌≡◌, ℕ, ◌+◌, true, List, length, take, drop, Some, None, Ok, Err, Result, sym, refl, ap, ◌∙◌, subst, arith, take_at}
+use Rattle.std.proofs.Common.{◌≡◌, ℕ, ◌+◌, true, List, length, take, drop, Some, None, Ok, Err, Result, sym, refl, ◌∙◌, subst, arith, take_at}
 use Rattle.rows.specs.Steps.{Does}
 use Rattle.rows.specs.Table.{Table, empty_table, lawful}
 use Rattle.words.proofs.Checks.{check_parts}

@@ -18,7 +18,7 @@ use Rattle.words.specs.Loads.{has_channels}
 use Rattle.words.proofs.Bits.{word_again}
 use Rattle.word_laws.proofs.Places.{at_head}
 use Rattle.std.proofs.lemmas.Option.{slice_get_within, slice_get-get_or}
-use Rattle.words.proofs.Found.{ number_by, goes_on, numbers_other}
+use Rattle.words.proofs.Found.{number_by, goes_on, numbers_other}
 use Rattle.words.proofs.Headed.{headed_by_lem, wrongly_headed}
 use Rattle.words.proofs.Whole.{numbers_within}
 use Rattle.word_laws.proofs.Faulty.{NoNumber, lacks, other, Faulty, no_head, wrong_head, wrong_actor, in_actor, wrong_channel, in_channel, wrong_end, not_last}

@@ -1,5 +1,5 @@
 -- The records of words, one after the other, whether or not the checks accept their rows.
-use Rattle.std.proofs.Common.{◌≡◌, ℕ, suc, ◌+◌, ◌<◌, ◌≤◌, Bool, true, false, eqb, List, [], ◌∷◌, ◌++◌, length, take, drop, Some, None, Ok, Err, sym, refl, ap, ◌∙◌, subst, append_assoc, arith, length-append}
+use Rattle.std.proofs.Common.{◌≡◌, ℕ, suc, ◌+◌, ◌<◌, ◌≤◌, Bool, true, false, eqb, List, [], ◌∷◌, ◌++◌, length, take, drop, Some, None, Ok, Err, sym, refl, ap, ◌∙◌, append_assoc, arith, length-append}
 use Rattle.std.specs.List.{flat_map, AllByRecursion, between}
 use Rattle.std.proofs.lemmas.List.{take_all, take_at}
 use Rattle.std.proofs.lemmas.Bool.{lt-ltb, eq-eqb, ne_eqb, cond-true}
@@ -14,7 +14,7 @@ use Rattle.words.specs.Fitting.{small, ActorFits, ChannelFits}
 use Rattle.word_laws.specs.Offends.{Shaped}
 use Rattle.words.specs.Records.{actor_part, channel_part, end_part, record_at}
 use Rattle.word_laws.proofs.Places.{drop_past}
-use Rattle.word_laws.proofs.RowRecords.{Over, over_head, actors_over, channels_over, ends, ends_fit, actor_read, channel_read, end_read}
+use Rattle.word_laws.proofs.RowRecords.{over_head, actors_over, channels_over, actor_read, channel_read, end_read}
 use Rattle.words.proofs.Headed.{headed_by_lem}
 use Rattle.words.proofs.Whole.{read_as}
 use Rattle.word_laws.proofs.Alike.{at_alike, actor_alike, channel_alike}

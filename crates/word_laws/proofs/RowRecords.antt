@@ -1,23 +1,22 @@
 -- The record of a row is read as the words of that row, and these as the row.
 use Rattle.std.proofs.lemmas.Grind.{common_steps}
 use Rattle.std.proofs.lemmas.Option.{gets}
-use Rattle.std.proofs.Common.{◌≡◌, ℕ, suc, ◌+◌, ◌-◌, ◌<◌, Bool, true, false, cond, eqb, ltb, List, [], ◌∷◌, ◌++◌, map, length, drop, Some, None, Ok, Err, Option, Result, sym, refl, ap, ◌∙◌, append_assoc, append-nil, arith, length-append, length-drop}
+use Rattle.std.proofs.Common.{◌≡◌, ℕ, suc, ◌+◌, ◌<◌, Bool, true, false, cond, eqb, ltb, List, [], ◌∷◌, ◌++◌, map, length, drop, Some, None, Ok, Err, Option, Result, sym, refl, ap, ◌∙◌, append_assoc, append-nil, arith}
 use Rattle.std.specs.List.{between, flat_map, AllByRecursion}
 use Rattle.std.proofs.lemmas.List.{length-map}
-use Rattle.std.proofs.lemmas.Bool.{lt-ltb, eq-eqb}
+use Rattle.std.proofs.lemmas.Bool.{lt-ltb}
 use Rattle.rows.specs.Steps.{answer}
 use Rattle.rows.specs.declared.row.Placement.{Placement}
-use Rattle.rows.specs.declared.row.Placement.TheVariants.{Free, Pinned}
 use Rattle.rows.specs.Table.{ActorRow, ChannelRow, actor_with, channel_with, pin_of, placed}
 use Rattle.words.specs.Checks.{check}
 use Rattle.words.proofs.Checks.{check_from}
 use Rattle.words.specs.declared.fault.WordFault.{WordFault}
-use Rattle.words.specs.declared.fault.WordFault.TheVariants.{Missing, Misplaced, WrongEnd}
+use Rattle.words.specs.declared.fault.WordFault.TheVariants.{Missing, Misplaced}
 use Rattle.words.specs.Format.{kind_of, content_of, word_of, option_words, actor_words, ends_content, channel_words}
 use Rattle.words.specs.Fitting.{small, ActorFits, ChannelFits}
 use Rattle.words.specs.Records.{Part, actor_part, channel_part, end_part, wrong_kind, numbers_fault, given, past, writer_in, reader_in, writes_in, reads_in, actor_at, channel_at, end_at, record_at, actor_of, channel_of}
 use Rattle.words.proofs.Bits.{writer_field, reader_field, writes_field, reads_field, ends_small}
-use Rattle.word_laws.proofs.Places.{drop_past, drop_next, between_front, at_head, kind_read, content_read, given_other, given_skips, given_read, past_given, numbers_read, numbers_are, numbers_join}
+use Rattle.word_laws.proofs.Places.{drop_past, drop_next, between_front, kind_read, content_read, given_read, numbers_read, numbers_are, numbers_join}
 
 -- words that do not go on the record before them
 

@@ -1,5 +1,5 @@
 -- The kind and the content of a word, and the fields of a channel's head.
-use Rattle.std.proofs.Common.{◌≡◌, ℕ, ◌+◌, ◌*◌, ◌/◌, ◌%◌, ◌<◌, sym, ap, ◌∙◌, arith}
+use Rattle.std.proofs.Common.{◌≡◌, ℕ, ◌<◌, sym, ap, ◌∙◌, arith}
 use Rattle.std.proofs.lemmas.Nat.{div-mul-add, mod-mul-add, div-add-mod', mod_below}
 use Rattle.words.specs.Format.{kind_of, content_of, word_of, ends_content}
 use Rattle.words.specs.Records.{writer_in, reader_in, writes_in, reads_in}

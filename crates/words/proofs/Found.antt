@@ -1,13 +1,11 @@
 -- What stands at a place of the words.
-use Rattle.std.proofs.lemmas.Option.{gets}
-use Rattle.std.proofs.Common.{◌≡◌, ℕ, zero, suc, ◌+◌, ◌-◌, ◌<◌, ◌≤◌, true, cond, eqb, List, [], ◌∷◌, length, get_or, is_some, Some, None, Option, sym, refl, ap, ◌∙◌, arith}
-use Rattle.std.proofs.lemmas.Bool.{cond-true, cond-false, eq-eqb, ne_eqb}
+use Rattle.std.proofs.Common.{◌≡◌, ℕ, suc, ◌+◌, ◌-◌, ◌<◌, cond, eqb, List, Some, None, Option, arith}
 use Rattle.std.specs.List.{slice_get}
 use Rattle.words.specs.Checks.{check}
 use Rattle.words.specs.declared.fault.WordFault.{WordFault}
 use Rattle.words.specs.declared.fault.WordFault.TheVariants.{Missing}
 use Rattle.words.specs.Format.{kind_of, content_of}
-use Rattle.words.specs.Records.{given, numbers_fault, wrong_kind}
+use Rattle.words.specs.Records.{numbers_fault, wrong_kind}
 
 abbrev pub given_by : ℕ → Option ℕ → Option ℕ
 given_by kind o = elim o [ None ↦ None | Some w ↦ cond (eqb (kind_of w) kind) (Some (content_of w)) None ]

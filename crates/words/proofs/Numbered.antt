@@ -1,9 +1,8 @@
 -- Each kind has a number of its own.
 use Rattle.std.proofs.Common.{arith}
-use Rattle.std.proofs.Common.{◌≡◌, ℕ, true, false, cond, eqb, Some, None, Option, MatchOption, sym, refl, ap, ◌∙◌}
+use Rattle.std.proofs.Common.{◌≡◌, ℕ, false, Some, Option, MatchOption}
 use Rattle.rows.specs.Table.{within}
 use Rattle.words.specs.declared.word.Kind.{Kind}
-use Rattle.words.specs.declared.word.Kind.TheVariants.{Actor, Channel, Number, NotBefore, Pin, Ceiling, End}
 use Rattle.words.specs.Format.{kind_number}
 
 -- a word of this number has no other kind

@@ -1,18 +1,13 @@
 -- What a record that is read whole has: its head, its numbers, and an end within the words.
 use Rattle.std.proofs.lemmas.Grind.{common_steps}
 use Rattle.std.proofs.lemmas.Option.{gets}
-use Rattle.std.proofs.Common.{◌≡◌, ℕ, zero, suc, ◌+◌, ◌-◌, ◌<◌, ◌≤◌, Bool, true, false, cond, not, eqb, ltb, List, [], ◌∷◌, length, get_or, drop, is_some, Some, None, Ok, Err, Option, sym, refl, ap, ◌∙◌, subst, arith, length-drop}
+use Rattle.std.proofs.Common.{◌≡◌, ℕ, zero, suc, ◌+◌, ◌-◌, ◌<◌, ◌≤◌, Bool, false, List, length, Some, None, Ok, Option, arith}
 use Rattle.std.specs.List.{between}
-use Rattle.std.proofs.lemmas.List.{length-take-le, get_or-take, get_or-drop}
-use Rattle.std.proofs.lemmas.Bool.{and_parts, not-true, ltb-true, eqb-true}
+use Rattle.std.proofs.lemmas.Bool.{ltb-true, eqb-true}
 use Rattle.rows.specs.Steps.{answer}
 use Rattle.std.specs.List.{slice_get}
-use Rattle.words.specs.Checks.{check}
-use Rattle.words.proofs.Checks.{check_parts}
-use Rattle.words.specs.declared.fault.WordFault.TheVariants.{Misplaced, WrongEnd}
 use Rattle.words.specs.Format.{kind_of, content_of}
-use Rattle.words.specs.Records.{Part, actor_part, channel_part, end_part, given, past, numbers_fault, wrong_kind, record_at, actor_at, channel_at, end_at, writes_in, reads_in, head_content}
-use Rattle.words.proofs.Headed.{by}
+use Rattle.words.specs.Records.{Part, actor_part, channel_part, end_part, past, numbers_fault, record_at, writes_in, reads_in, head_content}
 
 pub answer_ok : {F V : Type 0} (o : Option F) (v x : V) → answer o v ≡ Ok x → (o ≡ None) × (v ≡ x)
 answer_ok o v x e = grind arith
