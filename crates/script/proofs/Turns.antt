@@ -22,7 +22,7 @@ onto_line w [] = w ∷ []
 onto_line w (p ∷ ps) = (w ++ p) ∷ ps
 
 onto_none : (ps : List (List ℕ)) → 0 < length ps → onto_line [] ps ≡ ps
-onto_none [] h = absurd (let z : ⊥ = omega arith in z)
+onto_none [] h = absurd (omega arith)
 onto_none (p ∷ ps) h = refl
 
 onto_byte : (w : List ℕ) (b : ℕ) (ps : List (List ℕ)) → onto_line (w ++ b ∷ []) ps ≡ onto_line w (onto_first b ps)

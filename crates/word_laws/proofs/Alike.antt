@@ -26,9 +26,6 @@ between_taken h e xs l = let z : h + (e - h) ≡ e = omega arith in sym (drop-ta
 abbrev fault_or : Option WordFault → Option WordFault → Option WordFault
 fault_or o later = elim o [ Some f ↦ Some f | None ↦ later ]
 
-accepted : (o : Option WordFault) (make : List ℕ → Part) (p q : List ℕ) → o ≡ None → p ≡ q → answer o (make p) ≡ Ok (make q)
-accepted o make p q e f = λ i. answer (e i) (make (f i))
-
 module _ (n : ℕ) (ws vs : List ℕ) (alike : take n ws ≡ take n vs) where
   pub at_alike : (i : ℕ) → i < n → slice_get ws i ≡ slice_get vs i
   at_alike i l = sym (at_take ws n i l) ∙ ap (λ xs. slice_get xs i) alike ∙ at_take vs n i l
@@ -38,9 +35,6 @@ module _ (n : ℕ) (ws vs : List ℕ) (alike : take n ws ≡ take n vs) where
 
   between_alike : (h e : ℕ) → h ≤ e → e ≤ n → between h e ws ≡ between h e vs
   between_alike h e l m = between_taken h e ws l ∙ ap (drop h) (take_alike e m) ∙ sym (between_taken h e vs l)
-
-  past_alike : (i kind : ℕ) → i < n → past ws i kind ≡ past vs i kind
-  past_alike i kind l = grind (arith, at_alike)
 
   pub numbers_alike : (i m : ℕ) → i + m ≤ n → numbers_fault ws i m ≡ numbers_fault vs i m
   numbers_alike i zero l = refl

@@ -20,7 +20,7 @@ use Rattle.word_laws.proofs.Answered.{means_refusal}
 module _ (ws : List ℕ) where
   read_as_granted : (r : Result Table LoadFault) → table_read ws ≡ r → fault_in r ≡ None → Describes ws (table_in r)
   read_as_granted (Ok t) e n = read_described ws t e
-  read_as_granted (Err f) e n = let z : ◌≡◌ {A = ℕ} 0 1 = cc in absurd (let y : ⊥ = omega arith in y)
+  read_as_granted (Err f) e n = grind arith
 
   pub described_loads : (t : Table) → Describes ws t → Does (loading ws) empty_table t (Ok (length ws))
   described_loads t d = loaded ws empty_table refl t (described_read ws t d)
@@ -49,8 +49,6 @@ module _ (ws : List ℕ) where
       }
 
 module _ (t : Table) (l : lawful t ≡ true) where
-  pub words_describe : Describes (table_words t) t
-  words_describe = record { accepted = l; written = refl }
 
   -- what is at the front of the words that are written
   pub written_front : (out : List ℕ) → take (length (table_words t)) (written 0 (table_words t) out) ≡ table_words t

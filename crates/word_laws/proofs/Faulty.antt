@@ -34,9 +34,6 @@ pub data Faulty (b : Bool) (ws : List ℕ) (h : ℕ) (f : WordFault) : Type 0 wh
   wrong_end : (w : ℕ) → slice_get ws h ≡ Some w → kind_of w ≡ 7 → (content_of w ≡ h → ⊥) → f ≡ WrongEnd h → Faulty b ws h f
   not_last : (w : ℕ) → slice_get ws h ≡ Some w → kind_of w ≡ 7 → content_of w ≡ h → (length ws ≡ suc h → ⊥) → f ≡ WrongEnd (suc h) → Faulty b ws h f
 
-absurdly : {X : Type 0} → ◌≡◌ {A = ℕ} 0 1 → X
-absurdly z = absurd (let y : ⊥ = omega arith in y)
-
 answer_err : {F V : Type 0} (o : Option F) (v : V) (f : F) → answer o v ≡ Err f → o ≡ Some f
 answer_err o v f e = grind arith
 
@@ -48,7 +45,7 @@ check_cases t g later f e = grind arith
 
 module _ (ws : List ℕ) where
   short : (n i : ℕ) (f : WordFault) → numbers_fault ws i n ≡ Some f → Short ws i n f
-  short zero i f e = absurdly (cc)
+  short zero i f e = absurd (cc)
   short (suc n) i f e = first (λ d. short n (suc i) f d) (slice_get ws i) refl e
     where
       here : NoNumber ws i f → Short ws i (suc n) f
@@ -95,7 +92,7 @@ module _ (b : Bool) (ws : List ℕ) (h w : ℕ) (stands : slice_get ws h ≡ Som
   faulty_end k e =
       ⊎_elim (λ c. wrong_end w stands k (eqb-false (content_of w) h c.0) c.1)
       (λ c. ⊎_elim (λ d. not_last w stands k (eqb-true (content_of w) h c.0) (eqb-false (length ws) (suc h) d.0) d.1)
-      (λ d. absurdly (let z : ◌≡◌ {A = ℕ} 0 1 = cc d.1 in z)) (check_cases _ (WrongEnd (suc h)) _ f c.1))
+      (λ d. absurd (cc d.1)) (check_cases _ (WrongEnd (suc h)) _ f c.1))
       (check_cases _ (WrongEnd h) _ f (answer_err _ _ f e))
 
   faulty_headed : (s t u : Bool) → eqb (kind_of w) 1 ≡ s → eqb (kind_of w) 2 ≡ t → eqb (kind_of w) 7 ≡ u

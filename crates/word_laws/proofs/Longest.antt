@@ -17,12 +17,6 @@ use Rattle.words.proofs.Whole.{past_within, between_length}
 
 -- words that may be left out
 
-past_grows : (ws : List ℕ) (i k : ℕ) → i ≤ past ws i k
-past_grows ws i k = cond_both (is_some (given ws i k)) (suc i) i (λ x. i ≤ x) (λ e. omega arith) (λ e. omega arith)
-
-given_first : (ws : List ℕ) (i k n : ℕ) (more : List ℕ) → drop i ws ≡ word_of k n ∷ more → small_if (Some n) ≡ true → past ws i k ≡ i + 1
-given_first ws i k n more e s = past_given ws i k (Some n) (given_from ws i k ∙ ap (λ l. given l 0 k) e ∙ given_word k n more s)
-
 option_least : (ws : List ℕ) (i k : ℕ) (o : Option ℕ) (more : List ℕ) → drop i ws ≡ option_words k o ++ more → small_if o ≡ true
     → i + length (option_words k o) ≤ past ws i k
 option_least ws i k o more e s = grind (arith, common_steps, gets)

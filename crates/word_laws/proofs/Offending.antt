@@ -27,9 +27,6 @@ use Rattle.word_laws.proofs.Reached.{Reached, never}
 use Rattle.word_laws.proofs.Begun.{lawful_shaped, unfinished_begins, rows_taken, h_within, may_end, rows_unfinished, actor_under_way, channel_under_way}
 use Rattle.word_laws.proofs.Reading.{Sofar}
 
-absurdly : {X : Type 0} → ◌≡◌ {A = ℕ} 0 1 → X
-absurdly z = absurd (let y : ⊥ = omega arith in y)
-
 answer_fault : {F V : Type 0} (o : Option F) (v : V) (f : F) → o ≡ Some f → answer o v ≡ Err f
 answer_fault o v f e = ap (λ x. answer x v) e
 
@@ -44,19 +41,9 @@ take_next xs i x e = grind (arith, common_steps, gets)
 -- the first word that is no number is the fault
 numbers_stop : (vs : List ℕ) (i j n v : ℕ) → numbers_fault vs i j ≡ None → j < n → slice_get vs (i + j) ≡ Some v → (kind_of v ≡ 3 → ⊥)
     → numbers_fault vs i n ≡ Some (wrong_kind (i + j) v)
-numbers_stop vs i j zero v e l a k = absurd (let z : ⊥ = omega arith in z)
-numbers_stop vs i zero (suc n) v e l a k =
-    let z : i + 0 ≡ i = omega arith in
-    numbers_other vs i n v (ap (slice_get vs) (sym z) ∙ a) k ∙ ap (λ p. Some (wrong_kind p v)) (sym z)
-numbers_stop vs i (suc j) (suc n) v e l a k = first (λ d. numbers_stop vs (suc i) j n v d (omega arith) (ap (slice_get vs) z ∙ a) k) (number_by vs i (slice_get vs i)) refl e
-  where
-    z : suc i + j ≡ i + suc j
-    z = omega arith
-
-    first : (numbers_fault vs (suc i) j ≡ None → numbers_fault vs (suc i) n ≡ Some (wrong_kind (suc i + j) v)) → (o : Option WordFault) → number_by vs i (slice_get vs i) ≡ o
-        → goes_on vs i j o ≡ None → goes_on vs i n (number_by vs i (slice_get vs i)) ≡ Some (wrong_kind (i + suc j) v)
-    first next None s d = ap (goes_on vs i n) s ∙ next d ∙ ap (λ p. Some (wrong_kind p v)) z
-    first next (Some f) s d = absurdly (cc)
+numbers_stop vs i j zero v e l a k = grind arith
+numbers_stop vs i zero (suc n) v e l a k = grind arith
+numbers_stop vs i (suc j) (suc n) v e l a k = grind (arith, numbers_stop vs (suc i) j n v)
 
 -- an offending word
 
@@ -123,11 +110,7 @@ module _ (ws : List ℕ) (h : ℕ) (t : Table) (s : Sofar ws h t) (r : Reached w
           (fault vs head (wrong_kind p v) (numbers_stop vs (suc h) j n v none less v_there k))
 
       number_refused : Unfinished (take (suc h + j) ws) → (f : WordFault) → NoNumber ws (suc h + j) f → WordRefused ws f
-      number_refused u f (lacks a e) =
-          let p = suc h + j in
-          let l = past_all ws p a in
-          let m = p_within in
-          subst (WordRefused ws) (sym e) (runs_out p (omega arith) u)
+      number_refused u f (lacks a e) = grind (arith, past_all, p_within, runs_out)
       number_refused u f (other v a k e) =
           let p = suc h + j in
           by_kind ws p v

@@ -1,7 +1,7 @@
 -- The words from a place on: numbers, and words that may be left out.
 use Rattle.std.proofs.lemmas.Grind.{common_steps}
 use Rattle.std.proofs.lemmas.Option.{gets}
-use Rattle.std.proofs.Common.{◌≡◌, ℕ, zero, suc, ◌+◌, ◌-◌, Bool, true, false, cond, eqb, List, [], ◌∷◌, ◌++◌, map, length, take, drop, is_some, Some, None, Option, sym, refl, ap, ◌∙◌, subst, arith, drop-drop, take_at, drop_at}
+use Rattle.std.proofs.Common.{◌≡◌, ℕ, zero, suc, ◌+◌, ◌-◌, Bool, true, false, cond, eqb, List, [], ◌∷◌, ◌++◌, map, length, get_or, take, drop, is_some, Some, None, Option, sym, refl, ap, ◌∙◌, subst, arith, drop-drop, take_at, drop_at}
 use Rattle.std.specs.List.{between}
 use Rattle.std.proofs.lemmas.List.{length-map}
 use Rattle.std.proofs.lemmas.Bool.{and_parts, and_from, ltb-true, lt-ltb, eqb-true, eq-eqb, cond-true, cond-false}
@@ -35,8 +35,6 @@ module _ {X : Type 0} where
   at_head xs i x more e = at_first xs i ∙ ap (λ l. slice_get l 0) e
 
   -- the element at a place begins the list from there on
-  first_there : (l : List X) (x : X) → slice_get l 0 ≡ Some x → l ≡ x ∷ drop 1 l
-  first_there l x e = grind arith
 
   pub drop_there : (xs : List X) (i : ℕ) (x : X) → slice_get xs i ≡ Some x → drop i xs ≡ x ∷ drop (suc i) xs
   drop_there xs i x e = grind (arith, common_steps, gets)
@@ -54,11 +52,7 @@ content_read k c s = content_of_word k c (ltb-true c 268435456 s)
 
 pub contents_read : (k : ℕ) (ns : List ℕ) → list_all small ns ≡ true → map content_of (map (word_of k) ns) ≡ ns
 contents_read k [] s = refl
-contents_read k (n ∷ ns) s =
-    let p = and_parts (small n) (list_all small ns) s in
-    let a = content_read k n p.0 in
-    let b = contents_read k ns p.1 in
-    λ i. a i ∷ b i
+contents_read k (n ∷ ns) s = grind (arith, contents_read k ns)
 
 -- a word that may be left out
 
@@ -111,16 +105,9 @@ number_fault_in i o = elim o [ None ↦ Some (Missing i) | Some w ↦ check (eqb
 abbrev fault_or : Option WordFault → Option WordFault → Option WordFault
 fault_or o p = elim o [ Some f ↦ Some f | None ↦ p ]
 
-number_read : (ws : List ℕ) (i n : ℕ) → slice_get ws i ≡ Some (word_of 3 n) → small n ≡ true → number_fault ws i ≡ None
-number_read ws i n e s = grind arith
-
 pub numbers_read : (ws : List ℕ) (i : ℕ) (ns more : List ℕ) → drop i ws ≡ map (word_of 3) ns ++ more → list_all small ns ≡ true → numbers_fault ws i (length ns) ≡ None
 numbers_read ws i [] more e s = refl
-numbers_read ws i (n ∷ ns) more e s =
-    let p = and_parts (small n) (list_all small ns) s in
-    let after = map (word_of 3) ns ++ more in
-    ap (λ o. fault_or o (numbers_fault ws (suc i) (length ns))) (number_read ws i n (at_head ws i (word_of 3 n) after e) p.0)
-    ∙ numbers_read ws (suc i) ns more (drop_next ws i (word_of 3 n) after e) p.1
+numbers_read ws i (n ∷ ns) more e s = grind (arith, at_head, drop_next, numbers_read ws (suc i) ns more)
 
 -- and their contents are the numbers
 pub numbers_are : (ws : List ℕ) (i j : ℕ) (ns more : List ℕ) → drop i ws ≡ map (word_of 3) ns ++ more → list_all small ns ≡ true → j ≡ i + length ns
@@ -133,10 +120,7 @@ number_then : (o p : Option WordFault) → fault_or o p ≡ None → (o ≡ None
 number_then o p e = grind arith
 
 pub numbers_join : (ws : List ℕ) (i n m : ℕ) → numbers_fault ws i n ≡ None → numbers_fault ws (i + n) m ≡ None → numbers_fault ws i (n + m) ≡ None
-numbers_join ws i zero m e f =
-    let a : 0 + m ≡ m = omega arith in
-    let b : i ≡ i + 0 = omega arith in
-    ap (numbers_fault ws i) a ∙ ap (λ j. numbers_fault ws j m) b ∙ f
+numbers_join ws i zero m e f = grind arith
 numbers_join ws i (suc n) m e f =
     let p = number_then (number_fault ws i) (numbers_fault ws (suc i) n) e in
     let a : suc n + m ≡ suc (n + m) = omega arith in
@@ -146,10 +130,7 @@ numbers_join ws i (suc n) m e f =
     ∙ numbers_join ws (suc i) n m p.1 (ap (λ j. numbers_fault ws j m) b ∙ f)
 
 pub numbers_part : (ws : List ℕ) (i n m : ℕ) → numbers_fault ws i (n + m) ≡ None → (numbers_fault ws i n ≡ None) × (numbers_fault ws (i + n) m ≡ None)
-numbers_part ws i zero m e =
-    let a : 0 + m ≡ m = omega arith in
-    let b : i + 0 ≡ i = omega arith in
-    (refl, ap (λ j. numbers_fault ws j m) b ∙ sym (ap (numbers_fault ws i) a) ∙ e)
+numbers_part ws i zero m e = grind arith
 numbers_part ws i (suc n) m e =
     let a : suc n + m ≡ suc (n + m) = omega arith in
     let b : i + suc n ≡ suc i + n = omega arith in
@@ -171,22 +152,10 @@ record Number (ws : List ℕ) (i : ℕ) : Type 0 where
   word : drop i ws ≡ word_of 3 number ∷ drop (suc i) ws
 
 number_there : (ws : List ℕ) (i : ℕ) → number_fault ws i ≡ None → Number ws i
-number_there ws i e = found (slice_get ws i) refl e
-  where
-    found : (o : Option ℕ) → slice_get ws i ≡ o → number_fault_in i o ≡ None → Number ws i
-    found None a e = let z : ◌≡◌ {A = ℕ} 0 1 = cc in absurd (let w : ⊥ = omega arith in w)
-    found (Some w) a e =
-        let p = check_parts (eqb (kind_of w) 3) (wrong_kind i w) None e in
-        record {
-          number = content_of w;
-          small_one = small_content w;
-          word = drop_there ws i w a ∙ ap (λ x. x ∷ drop (suc i) ws) (word_again w 3 (eqb-true (kind_of w) 3 p.0));
-        }
+number_there ws i e = let w = get_or ws i 0 in record { number = content_of w; small_one = small_content w; word = grind (arith, common_steps, gets) }
 
 pub numbers_there : (ws : List ℕ) (i n : ℕ) → numbers_fault ws i n ≡ None → Numbers ws i n
-numbers_there ws i zero e =
-    let b : i ≡ i + 0 = omega arith in
-    record { numbers = []; small_ones = refl; many = refl; words = ap (λ j. drop j ws) b }
+numbers_there ws i zero e = grind arith
 numbers_there ws i (suc n) e =
     let p = number_then (number_fault ws i) (numbers_fault ws (suc i) n) e in
     let x = number_there ws i p.0 in

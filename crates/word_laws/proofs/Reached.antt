@@ -19,9 +19,6 @@ use Rattle.words.proofs.Headed.{headed_by_lem}
 use Rattle.words.proofs.Whole.{read_as}
 use Rattle.word_laws.proofs.Alike.{at_alike, actor_alike, channel_alike}
 
-absurdly : {X : Type 0} → ◌≡◌ {A = ℕ} 0 1 → X
-absurdly z = absurd (let y : ⊥ = omega arith in y)
-
 -- from the first word on, records come up to place h; b says whether there is a channel among them
 pub data Reached (ws : List ℕ) : Bool → ℕ → Type 0 where
   start : Reached ws false 0
@@ -81,9 +78,7 @@ module _ (ws : List ℕ) (z : ℕ) (low : small z ≡ true) where
   actors_end : (h : ℕ) (rows : List ActorRow) (cs : List ChannelRow) → AllByRecursion ActorFits rows → AllByRecursion ChannelFits cs
       → drop h ws ≡ flat_map actor_words rows ++ (flat_map channel_words cs ++ end_words z)
       → z ≡ h + length (flat_map actor_words rows) + length (flat_map channel_words cs) → Ends ws false h
-  actors_end h [] cs f g e z_is =
-      let z_more : z ≡ h + length (flat_map channel_words cs) = omega arith in
-      channels_end false h cs g e z_more
+  actors_end h [] cs f g e z_is = grind (arith, channels_end)
   actors_end h (a ∷ rows) cs f g e z_is =
       let part = actor_words a in
       let last = flat_map channel_words cs ++ end_words z in

@@ -80,7 +80,7 @@ every_after test xs ys e = grind (arith, common_steps)
 
 all_tested : {X : Type 0} (test : X → Bool) (P : X → Type 0) → ((x : X) → test x ≡ true → P x) → (xs : List X) → list_all test xs ≡ true → AllByRecursion P xs
 all_tested test P f [] e = tt
-all_tested test P f (x ∷ xs) e = let p = and_parts (test x) (list_all test xs) e in (f x p.0, all_tested test P f xs p.1)
+all_tested test P f (x ∷ xs) e = grind (arith, all_tested test P f xs)
 
 pub actors_fit : (rows : List ActorRow) → list_all good_actor rows ≡ true → AllByRecursion ActorFits rows
 actors_fit rows e = all_tested good_actor ActorFits (λ a h. actor_fits a (passes_none (actor_fault a) h)) rows e
@@ -97,12 +97,8 @@ module _ (ws rest : List ℕ) (over : Over rest) (records : ℕ) where
   channels_pass : (all h : ℕ) (rows : List ActorRow) (xs ys : List ChannelRow) → lawful (rows_of rows (xs ++ ys)) ≡ true
       → drop h ws ≡ flat_map channel_words ys ++ rest → all ≡ length ys + records
       → rows_from all ws h (rows_of rows xs) ≡ rows_from records ws (h + length (flat_map channel_words ys)) (rows_of rows (xs ++ ys))
-  channels_pass all h rows xs [] l e count =
-      let n : all ≡ records = omega arith in
-      let here : h ≡ h + 0 = omega arith in
-      let same = sym (append-nil xs) in
-      λ i. rows_from (n i) ws (here i) (rows_of rows (same i))
-  channels_pass zero h rows xs (c ∷ cs) l e count = absurd (let w : ⊥ = omega arith in w)
+  channels_pass all h rows xs [] l e count = grind (arith, common_steps)
+  channels_pass zero h rows xs (c ∷ cs) l e count = grind arith
   channels_pass (suc all) h rows xs (c ∷ cs) l e count =
       let law = lawful_parts (rows_of rows (xs ++ c ∷ cs)) l in
       let good = and_parts (good_channel rows c) (list_all (good_channel rows) cs) (every_after (good_channel rows) xs (c ∷ cs) law.good_channels) in
@@ -132,7 +128,7 @@ module _ (ws rest : List ℕ) (over : Over rest) (records : ℕ) where
       let left : all ≡ length cs + records = omega arith in
       let here : h + length (flat_map channel_words cs) ≡ h + 0 + length (flat_map channel_words cs) = omega arith in
       channels_pass all h xs [] cs (ap (λ r. lawful (rows_of r cs)) (sym same) ∙ l) e left ∙ (λ i. rows_from records ws (here i) (rows_of (sym same i) cs))
-  actors_pass zero h xs (a ∷ ys) cs l e count = absurd (let w : ⊥ = omega arith in w)
+  actors_pass zero h xs (a ∷ ys) cs l e count = grind arith
   actors_pass (suc all) h xs (a ∷ ys) cs l e count =
       let rows = xs ++ a ∷ ys in
       let law = lawful_parts (rows_of rows cs) l in

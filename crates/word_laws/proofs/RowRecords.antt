@@ -230,11 +230,7 @@ module _ (c : ChannelRow) (f : ChannelFits c) where
 
 pub actors_over : (rows : List ActorRow) (more : List ℕ) → AllByRecursion ActorFits rows → Over more → Over (flat_map actor_words rows ++ more)
 actors_over [] more f o = o
-actors_over (a ∷ rows) more f o =
-    let few = f.0.few in
-    let n = length a.times in
-    let low : n < 268435456 = omega arith in
-    over_head 1 n _ (lt-ltb n 268435456 low) refl refl refl
+actors_over (a ∷ rows) more f o = grind arith
 
 pub channels_over : (cs : List ChannelRow) (more : List ℕ) → AllByRecursion ChannelFits cs → Over more → Over (flat_map channel_words cs ++ more)
 channels_over [] more f o = o

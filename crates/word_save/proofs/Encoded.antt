@@ -18,7 +18,7 @@ use Rattle.words.proofs.Fits.{actor_fits, channel_fits, rows_few}
 
 -- an element of a list that passes a test
 every_at : {X : Type 0} (test : X → Bool) (xs : List X) (i : ℕ) (d : X) → list_all test xs ≡ true → i < length xs → test (get_or xs i d) ≡ true
-every_at test [] i d e h = absurd (let z : ⊥ = omega arith in z)
+every_at test [] i d e h = absurd (omega arith)
 every_at test (x ∷ xs) zero d e h = (and_parts (test x) (list_all test xs) e).0
 every_at test (x ∷ xs) (suc i) d e h = every_at test xs i d (and_parts (test x) (list_all test xs) e).1 (omega arith)
 

@@ -18,5 +18,3 @@ module _ (ws : List ℕ) (t : Table) where
     pub not_loaded : (after : Table) (f : LoadFault) → rows_from (length ws) ws 0 t ≡ Err f → after ≡ empty_table → Does (loading ws) t after (Err f)
     not_loaded after f x y = grind (arith, common_steps)
 
-  pub has_rows : is_empty t ≡ false → Does (loading ws) t t (Err HasRows)
-  has_rows e = grind arith

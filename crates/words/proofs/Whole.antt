@@ -14,9 +14,6 @@ use Rattle.words.specs.Format.{kind_of, content_of}
 use Rattle.words.specs.Records.{Part, actor_part, channel_part, end_part, given, past, numbers_fault, wrong_kind, record_at, actor_at, channel_at, end_at, writes_in, reads_in, head_content}
 use Rattle.words.proofs.Headed.{by}
 
-pub answer_ok : {F V : Type 0} (o : Option F) (v x : V) → answer o v ≡ Ok x → (o ≡ None) × (v ≡ x)
-answer_ok o v x e = grind arith
-
 -- numbers that are all there
 
 module _ (ws : List ℕ) where
@@ -77,8 +74,6 @@ pub record Within (ws : List ℕ) (h : ℕ) (part : List ℕ) (content numbers :
   pub ends : h + length part ≤ length ws
 
 module _ (ws : List ℕ) (h : ℕ) (part : List ℕ) where
-  within : (w n e : ℕ) → slice_get ws h ≡ Some w → suc h + n ≤ e → e ≤ length ws → between h e ws ≡ part → Within ws h part (content_of w) n
-  within w n e s l m is = grind (arith, common_steps, gets)
 
   pub actor_within : (after : Bool) (r : ActorRead after ws h part) → Within ws h part (content_of r.head) (content_of r.head)
   actor_within after r = grind (arith, common_steps, gets, numbers_within)
