@@ -34,28 +34,10 @@ actor_longest ws h part a rest r f e = grind (arith, common_steps, gets, options
 pub channel_longest : (b : Bool) (ws : List ℕ) (h : ℕ) (part : List ℕ) (c : ChannelRow) (rest : List ℕ) → record_at b ws h ≡ Ok (channel_part part) → ChannelFits c
     → drop h ws ≡ channel_words c ++ rest → length (channel_words c) ≤ length part
 channel_longest b ws h part c rest r f e =
-    let n = length c.writes in
-    let m = length c.reads in
-    let j = suc h + (n + m) in
-    let x = map (word_of 3) c.writes in
-    let y = map (word_of 3) c.reads in
-    let z = option_words 6 c.ceiling in
-    let size_x = length-map c.writes (word_of 3) in
-    let size_y = length-map c.reads (word_of 3) in
-    let u = length-append x (y ++ z) in
-    let v = length-append y z in
-    let all = ap length (sym e) ∙ length-drop h ws in
-    let both = length-append (channel_words c) rest in
-    let in_words : j ≤ length ws = omega arith in
-    let j_is : j ≡ suc h + n + m = omega arith in
-    let stop = past ws j 6 in
-    let q = past_within ws j 6 in_words in
-    let q0 = q.0 in
-    let q1 = q.1 in
-    let least = option_least ws j 6 c.ceiling rest (after_reads_lem c ws h (suc h + n) j rest e f refl j_is) f.ceiling_small in
-    let is : between h stop ws ≡ part = cc (channel_there c f b ws h rest e) in
-    let long = ap length (sym is) ∙ between_length ws h stop (omega arith) q1 in
-    omega arith
+    let k = suc h + (length c.writes + length c.reads) in
+    let least = option_least ws k 6 c.ceiling rest (after_reads_lem c ws h (suc h + length c.writes) k rest e f refl (omega arith)) f.ceiling_small in
+    let is : between h (past ws k 6) ws ≡ part = cc (channel_there c f b ws h rest e) in
+    grind (arith, common_steps, gets)
 
 -- and the longest row is read
 

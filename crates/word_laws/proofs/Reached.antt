@@ -17,7 +17,7 @@ use Rattle.word_laws.proofs.Places.{drop_past}
 use Rattle.word_laws.proofs.RowRecords.{Over, over_head, actors_over, channels_over, ends, ends_fit, actor_read, channel_read, end_read}
 use Rattle.words.proofs.Headed.{headed_by_lem}
 use Rattle.words.proofs.Whole.{read_as}
-use Rattle.word_laws.proofs.Alike.{at_alike, actor_alike, channel_alike}
+use Rattle.word_laws.proofs.Alike.{slice_get_alike, actor_alike, channel_alike}
 
 -- from the first word on, records come up to place h; b says whether there is a channel among them
 pub data Reached (ws : List ℕ) : Bool → ℕ → Type 0 where
@@ -137,5 +137,5 @@ whole_stops t u s v x more e =
     cond-true (eqb (content_of w) h) _ _ (eq-eqb (content_of w) h r.count)
     ∙ sym (check_failed (eqb (length vs) (suc h)) (WrongEnd (suc h)) None (ne_eqb (length vs) (suc h) (λ z. omega arith))) in
     never (suc h) ws b h l.reached (omega arith) u v alike (WrongEnd (suc h))
-    (headed_by_lem b vs h w (sym (at_alike (suc h) ws vs alike h (omega arith)) ∙ r.stands) 7 r.kind
+    (headed_by_lem b vs h w (sym (slice_get_alike (suc h) ws vs alike h (omega arith)) ∙ r.stands) 7 r.kind
     ∙ ap (λ o. answer o (end_part (between h (suc h) vs))) fault)

@@ -75,8 +75,8 @@ module _ (records : ℕ) (ws : List ℕ) (h : ℕ) (t : Table) where
 
 -- the rows of a lawful table fit
 
-every_after : {X : Type 0} (test : X → Bool) (xs ys : List X) → list_all test (xs ++ ys) ≡ true → list_all test ys ≡ true
-every_after test xs ys e = grind (arith, common_steps)
+list_all_after : {X : Type 0} (test : X → Bool) (xs ys : List X) → list_all test (xs ++ ys) ≡ true → list_all test ys ≡ true
+list_all_after test xs ys e = grind (arith, common_steps)
 
 all_tested : {X : Type 0} (test : X → Bool) (P : X → Type 0) → ((x : X) → test x ≡ true → P x) → (xs : List X) → list_all test xs ≡ true → AllByRecursion P xs
 all_tested test P f [] e = tt
@@ -101,7 +101,7 @@ module _ (ws rest : List ℕ) (over : Over rest) (records : ℕ) where
   channels_pass zero h rows xs (c ∷ cs) l e count = grind arith
   channels_pass (suc all) h rows xs (c ∷ cs) l e count =
       let law = lawful_parts (rows_of rows (xs ++ c ∷ cs)) l in
-      let good = and_parts (good_channel rows c) (list_all (good_channel rows) cs) (every_after (good_channel rows) xs (c ∷ cs) law.good_channels) in
+      let good = and_parts (good_channel rows c) (list_all (good_channel rows) cs) (list_all_after (good_channel rows) xs (c ∷ cs) law.good_channels) in
       let none = passes_none (channel_fault rows c) good.0 in
       let many = law.few_channels in
       let size = length-append xs (c ∷ cs) in
@@ -132,7 +132,7 @@ module _ (ws rest : List ℕ) (over : Over rest) (records : ℕ) where
   actors_pass (suc all) h xs (a ∷ ys) cs l e count =
       let rows = xs ++ a ∷ ys in
       let law = lawful_parts (rows_of rows cs) l in
-      let good = and_parts (good_actor a) (list_all good_actor ys) (every_after good_actor xs (a ∷ ys) law.good_actors) in
+      let good = and_parts (good_actor a) (list_all good_actor ys) (list_all_after good_actor xs (a ∷ ys) law.good_actors) in
       let none = passes_none (actor_fault a) good.0 in
       let many = law.few_actors in
       let size = length-append xs (a ∷ ys) in

@@ -18,7 +18,6 @@ use Rattle.words.specs.Loads.{has_channels, rows_from, table_read}
 use Rattle.word_laws.proofs.RowRecords.{Over, over_head, ends, ends_fit, actor_again, channel_again}
 use Rattle.word_laws.proofs.RowsFound.{FoundActor, FoundChannel, record_found}
 use Rattle.word_laws.proofs.Reading.{add_then, record_then, words_with_actor, words_with_channel, Sofar, sofar_more, rows_pass}
-use Rattle.word_laws.proofs.Faulty.{faulty}
 use Rattle.word_laws.proofs.Reached.{Reached, start, past_actor, past_channel}
 use Rattle.word_laws.proofs.Longest.{actor_longest, channel_longest, first_actor, first_channel}
 use Rattle.word_laws.proofs.Offending.{head_missing, word_refused}
@@ -122,7 +121,7 @@ module _ (ws : List ℕ) where
     channel_then part d g None a e = grind (arith, common_steps, channel_again, past_channel)
 
     record_then_lem : (x : Result Part WordFault) → record_at (has_channels t) ws h ≡ x → table_read ws ≡ record_then records ws h t x → Says ws (record_then records ws h t x)
-    record_then_lem (Err g) a e = of_word g e (word_refused ws h t s r g (faulty (has_channels t) ws h g a))
+    record_then_lem (Err g) a e = of_word g e (word_refused ws h t s r g a)
     record_then_lem (Ok (actor_part part)) a e =
         actor_then part a (record_found (has_channels t) ws h (actor_part part) a) ((add_actor (actor_of part)).fault t) refl e
     record_then_lem (Ok (channel_part part)) a e =

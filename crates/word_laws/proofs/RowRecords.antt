@@ -17,7 +17,7 @@ use Rattle.words.specs.Format.{kind_of, content_of, word_of, option_words, actor
 use Rattle.words.specs.Fitting.{small, ActorFits, ChannelFits}
 use Rattle.words.specs.Records.{Part, actor_part, channel_part, end_part, wrong_kind, numbers_fault, given, past, writer_in, reader_in, writes_in, reads_in, actor_at, channel_at, end_at, record_at, actor_of, channel_of}
 use Rattle.words.proofs.Bits.{writer_field, reader_field, writes_field, reads_field, ends_small}
-use Rattle.word_laws.proofs.Places.{drop_past, drop_next, between_front, at_head, kind_read, content_read, given_other, given_skips, given_read, past_given, numbers_read, numbers_are, numbers_join}
+use Rattle.word_laws.proofs.Places.{drop_past, drop_next, between_front, slice_get_head, kind_read, content_read, given_other, given_skips, given_read, past_given, numbers_read, numbers_are, numbers_join}
 
 -- words that do not go on the record before them
 

@@ -22,8 +22,6 @@ module _ (ws : List ℕ) (i : ℕ) where
   goes_on n o = elim o [ Some f ↦ Some f | None ↦ numbers_fault ws (suc i) n ]
 
   -- seen from a number, and from a word that is none
-  pub numbers_more : (n w : ℕ) → slice_get ws i ≡ Some w → kind_of w ≡ 3 → numbers_fault ws i (suc n) ≡ numbers_fault ws (suc i) n
-  numbers_more n w e k = grind arith
 
   pub numbers_other : (n w : ℕ) → slice_get ws i ≡ Some w → (kind_of w ≡ 3 → ⊥) → numbers_fault ws i (suc n) ≡ Some (wrong_kind i w)
   numbers_other n w e k = grind arith
