@@ -18,8 +18,8 @@ use Rattle.words.specs.Format.{word_of, actor_words, channel_words, row_words, t
 use Rattle.words.proofs.Fits.{actor_fits, channel_fits, rows_few}
 
 -- an element of a list that passes a test
-every_at : {X : Type 0} (test : X → Bool) (xs : List X) (i : ℕ) (d : X) → list_all test xs ≡ true → i < length xs → test (get_or xs i d) ≡ true
-every_at test xs i d e h = grind (arith, common_steps)
+list_all_get_or : {X : Type 0} (test : X → Bool) (xs : List X) (i : ℕ) (d : X) → list_all test xs ≡ true → i < length xs → test (get_or xs i d) ≡ true
+list_all_get_or test xs i d e h = grind (arith, common_steps)
 
 -- a row at a place passes the test that all rows pass
 row_passes : {X Y : Type 0} (row : X → Y) (test : Y → Bool) (xs : List X) (ys : List Y) → map row xs ≡ ys → list_all test ys ≡ true → (i : ℕ) (d : X) → i < length xs
@@ -27,9 +27,7 @@ row_passes : {X Y : Type 0} (row : X → Y) (test : Y → Bool) (xs : List X) (y
 row_passes row test xs ys e all i d h =
     let n = length-map xs row in
     let m = ap length e in
-    let k : i < length ys = omega arith in
-    let is : get_or ys i (row d) ≡ row (get_or xs i d) = ap (λ rows. get_or rows i (row d)) (sym e) ∙ get_or-map row xs i d (row d) h in
-    ap test (sym is) ∙ every_at test ys i (row d) all k
+    ap test (sym (get_or-map row xs i d (row d) h) ∙ ap (λ rows. get_or rows i (row d)) e) ∙ list_all_get_or test ys i (row d) all (omega arith)
 
 -- the words of the program's rows are those of the rows that they stand for
 
