@@ -1,30 +1,18 @@
 -- Words that are alike up to a place: the records before it are the same.
 use Rattle.std.proofs.lemmas.Grind.{common_steps}
 use Rattle.std.proofs.lemmas.Option.{gets}
-use Rattle.std.proofs.Common.{◌≡◌, ℕ, zero, suc, ◌+◌, ◌-◌, ◌<◌, ◌≤◌, Bool, cond, not, ◌&&◌, ltb, List, [], ◌∷◌, length, take, drop, is_some, Some, None, Ok, Option, sym, refl, ap, ◌∙◌, arith}
+use Rattle.std.proofs.Common.{◌≡◌, ℕ, zero, suc, ◌+◌, ◌-◌, ◌<◌, ◌≤◌, Bool, List, length, take, drop, Ok, sym, refl, ap, ◌∙◌, arith}
 use Rattle.std.specs.List.{between}
 use Rattle.std.proofs.lemmas.List.{take-take, drop-take}
-use Rattle.std.proofs.lemmas.Bool.{and_from, not_from_false, lt-ltb}
-use Rattle.rows.specs.Steps.{answer}
 use Rattle.std.specs.List.{slice_get}
-use Rattle.words.specs.Checks.{check}
-use Rattle.words.proofs.Checks.{check_from}
-use Rattle.words.specs.declared.fault.WordFault.{WordFault}
-use Rattle.words.specs.declared.fault.WordFault.TheVariants.{Misplaced}
-use Rattle.words.specs.Format.{content_of}
-use Rattle.words.specs.Records.{Part, actor_part, channel_part, numbers_fault, past, writes_in, reads_in, record_at}
-use Rattle.words.proofs.Found.{number_by, goes_on}
-use Rattle.words.proofs.Headed.{headed_by_lem}
-use Rattle.words.proofs.Whole.{ActorRead, ChannelRead, numbers_within, past_within, between_length}
+use Rattle.words.specs.Records.{actor_part, channel_part, numbers_fault, record_at}
+use Rattle.words.proofs.Whole.{ActorRead, ChannelRead, past_within}
 
 slice_get-take : (xs : List ℕ) (n i : ℕ) → i < n → slice_get (take n xs) i ≡ slice_get xs i
 slice_get-take xs n i l = grind (arith, common_steps, gets)
 
 between_taken : (h e : ℕ) (xs : List ℕ) → h ≤ e → between h e xs ≡ drop h (take e xs)
 between_taken h e xs l = let z : h + (e - h) ≡ e = omega arith in sym (drop-take h (e - h) xs) ∙ ap (λ i. drop h (take i xs)) z
-
-abbrev fault_or : Option WordFault → Option WordFault → Option WordFault
-fault_or o later = elim o [ Some f ↦ Some f | None ↦ later ]
 
 module _ (n : ℕ) (ws vs : List ℕ) (alike : take n ws ≡ take n vs) where
   pub slice_get_alike : (i : ℕ) → i < n → slice_get ws i ≡ slice_get vs i

@@ -3,14 +3,11 @@ use Rattle.std.proofs.lemmas.Grind.{common_steps}
 use Rattle.std.proofs.Common.{◌≡◌, ℕ, zero, suc, ◌+◌, ◌-◌, ◌<◌, ◌≤◌, Bool, true, false, List, [], ◌∷◌, ◌++◌, map, length, take, drop, replicate, Some, None, sym, refl, ap, ◌∙◌, subst, append_assoc, append-nil, arith, length-append, length-drop, take-append-drop}
 use mathlib.Core.List.{map-append}
 use lib.ListN.{length-replicate}
-use Rattle.std.specs.List.{AllByRecursion}
 use Rattle.std.proofs.lemmas.List.{length-map, length-take-le, take_at}
 use Rattle.std.proofs.ByRecursion.{All-push}
-use Rattle.std.proofs.lemmas.Bool.{and_parts, and_from}
 use Rattle.rows.specs.declared.row.Placement.TheVariants.{Free}
 use Rattle.std.specs.List.{list_all, slice_get}
-use Rattle.rows.specs.Table.{ActorRow, ChannelRow, Table, actor_with, channel_with, actor_fault, channel_fault, lawful, add_actor, add_channel}
-use Rattle.rows.proofs.Parts.{passes_none}
+use Rattle.rows.specs.Table.{ActorRow, ChannelRow, Table, actor_with, channel_with, lawful, add_actor, add_channel}
 use Rattle.table.proofs.Lawful.{lawful_parts}
 use Rattle.words.specs.Format.{kind_of, content_of, word_of, actor_words, channel_words, ends_content, row_words}
 use Rattle.words.specs.Fitting.{small, ActorFits, ChannelFits}
@@ -19,7 +16,7 @@ use Rattle.words.specs.Records.{numbers_fault, writer_in, reader_in, writes_in, 
 use Rattle.words.specs.Loads.{has_channels}
 use Rattle.words.proofs.Bits.{word_again, writer_small, reader_small, writes_small, reads_small, ends_again}
 use Rattle.word_laws.proofs.Places.{drop_there, Numbers, numbers_there}
-use Rattle.words.proofs.Fits.{actor_fits, channel_fits, actor_few, channel_few, rows_bound}
+use Rattle.words.proofs.Fits.{channel_few, rows_bound}
 use Rattle.word_laws.proofs.Reading.{actors_fit, channels_fit, words_with_actor, words_with_channel, Sofar}
 
 -- a lawful table is shaped

@@ -1,19 +1,17 @@
 -- A record that is read is the longest row that the words go on with.
 use Rattle.std.proofs.lemmas.Grind.{common_steps}
 use Rattle.std.proofs.lemmas.Option.{gets}
-use Rattle.std.proofs.Common.{◌≡◌, ℕ, suc, ◌+◌, ◌≤◌, Bool, true, false, List, [], ◌∷◌, ◌++◌, map, length, take, drop, is_some, Some, None, Ok, Option, sym, refl, ap, ◌∙◌, arith, length-append, length-drop}
+use Rattle.std.proofs.Common.{◌≡◌, ℕ, suc, ◌+◌, ◌≤◌, Bool, true, false, List, ◌++◌, length, take, drop, Ok, Option, sym, refl, ap, ◌∙◌, arith}
 use Rattle.std.specs.List.{between}
-use Rattle.std.proofs.lemmas.List.{length-map, take_at}
-use Rattle.std.proofs.lemmas.Bool.{cond_both}
-use Rattle.rows.specs.Table.{ActorRow, ChannelRow, pin_of}
-use Rattle.words.specs.Format.{word_of, option_words, actor_words, channel_words}
+use Rattle.std.proofs.lemmas.List.{take_at}
+use Rattle.rows.specs.Table.{ActorRow, ChannelRow}
+use Rattle.words.specs.Format.{option_words, actor_words, channel_words}
 use Rattle.words.specs.Fitting.{small_if, ActorFits, ChannelFits}
 use Rattle.word_laws.specs.Offends.{First}
-use Rattle.words.specs.Records.{actor_part, channel_part, given, past, record_at}
-use Rattle.word_laws.proofs.Places.{drop_past, given_from, given_word, given_other, past_given}
+use Rattle.words.specs.Records.{actor_part, channel_part, past, record_at}
+use Rattle.word_laws.proofs.Places.{drop_past, given_from}
 use Rattle.word_laws.proofs.RowRecords.{after_times_lem, after_reads_lem, actor_there, channel_there}
 use Rattle.word_laws.proofs.RowsFound.{record_found}
-use Rattle.words.proofs.Whole.{past_within, between_length}
 
 -- words that may be left out
 

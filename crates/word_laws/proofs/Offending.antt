@@ -1,14 +1,13 @@
 -- A fault of a word: the first that offends, or one that is missing.
 use Rattle.std.proofs.lemmas.Grind.{common_steps}
 use Rattle.std.proofs.lemmas.Option.{gets}
-use Rattle.std.proofs.Common.{◌≡◌, ◌⊎◌, ⊎_elim, ℕ, zero, suc, ◌+◌, ◌<◌, ◌≤◌, Bool, true, false, not, ◌&&◌, eqb, ltb, List, [], ◌∷◌, ◌++◌, length, get_or, take, drop, Some, None, Err, Option, sym, refl, ap, ◌∙◌, subst, append_assoc, append-nil, arith}
+use Rattle.std.proofs.Common.{◌≡◌, ◌⊎◌, ⊎_elim, ℕ, zero, suc, ◌+◌, ◌<◌, ◌≤◌, Bool, true, false, not, ltb, List, [], ◌∷◌, ◌++◌, length, get_or, take, drop, Some, None, Err, Option, sym, refl, ap, ◌∙◌, subst, append_assoc, append-nil, arith}
 use Rattle.std.proofs.lemmas.List.{length-take-le, take_all, take_at, drop_at}
-use Rattle.std.proofs.lemmas.Bool.{cases_eq, and_parts, not-true, ltb-true, eqb-true, eqb-false, and_from, not_from_false, lt-ltb, eq-eqb, ne_eqb, cond-true, cond-false}
+use Rattle.std.proofs.lemmas.Bool.{cases_eq, and_parts, not-true, ltb-true, eqb-true, eqb-false, cond-true, cond-false}
 use Rattle.rows.specs.Steps.{answer}
 use Rattle.std.specs.List.{slice_get}
 use Rattle.rows.specs.Table.{Table, within}
 use Rattle.words.specs.Checks.{check}
-use Rattle.words.proofs.Checks.{check_failed}
 use Rattle.words.specs.declared.fault.WordFault.{WordFault}
 use Rattle.words.specs.declared.fault.WordFault.TheVariants.{Missing, UnknownKind, Misplaced, WrongEnd}
 use Rattle.words.specs.Format.{kind_of, content_of, word_of, row_words, table_words}
@@ -18,7 +17,6 @@ use Rattle.words.specs.Loads.{has_channels}
 use Rattle.words.proofs.Bits.{word_again}
 use Rattle.word_laws.proofs.Places.{slice_get_head}
 use Rattle.std.proofs.lemmas.Option.{slice_get_within, slice_get-get_or}
-use Rattle.words.proofs.Found.{ number_by, goes_on, numbers_other}
 use Rattle.words.proofs.Headed.{headed_by_lem, wrongly_headed}
 use Rattle.words.proofs.Whole.{numbers_within}
 use Rattle.word_laws.proofs.Alike.{slice_get_alike, numbers_alike}

@@ -1,19 +1,15 @@
 -- The words from a place on: numbers, and words that may be left out.
 use Rattle.std.proofs.lemmas.Grind.{common_steps}
 use Rattle.std.proofs.lemmas.Option.{gets}
-use Rattle.std.proofs.Common.{◌≡◌, ℕ, zero, suc, ◌+◌, ◌-◌, Bool, true, false, cond, eqb, List, [], ◌∷◌, ◌++◌, map, length, get_or, take, drop, is_some, Some, None, Option, sym, refl, ap, ◌∙◌, subst, arith, drop-drop, take_at, drop_at}
+use Rattle.std.proofs.Common.{◌≡◌, ℕ, zero, suc, ◌+◌, true, List, [], ◌∷◌, ◌++◌, map, length, get_or, drop, Some, None, Option, refl, ap, ◌∙◌, arith, drop-drop, drop_at}
 use Rattle.std.specs.List.{between}
 use Rattle.std.proofs.lemmas.List.{length-map}
-use Rattle.std.proofs.lemmas.Bool.{and_parts, and_from, ltb-true, lt-ltb, eqb-true, eq-eqb, cond-true, cond-false}
+use Rattle.std.proofs.lemmas.Bool.{and_from}
 use Rattle.std.specs.List.{list_all, slice_get}
-use Rattle.words.specs.Checks.{check}
-use Rattle.words.proofs.Checks.{check_parts}
 use Rattle.words.specs.declared.fault.WordFault.{WordFault}
-use Rattle.words.specs.declared.fault.WordFault.TheVariants.{Missing}
 use Rattle.words.specs.Format.{kind_of, content_of, word_of, option_words}
 use Rattle.words.specs.Fitting.{small, small_if}
-use Rattle.words.specs.Records.{wrong_kind, number_fault, numbers_fault, given, past}
-use Rattle.words.proofs.Bits.{kind_of_word, content_of_word, word_again, content_small}
+use Rattle.words.specs.Records.{number_fault, numbers_fault, given, past}
 
 -- a list from a place on
 
@@ -58,21 +54,8 @@ contents_read k (n ∷ ns) s = grind (arith, contents_read k ns)
 pub given_from : (ws : List ℕ) (i k : ℕ) → given ws i k ≡ given (drop i ws) 0 k
 given_from ws i k = grind (arith, slice_get-drop)
 
-pub given_word : (k n : ℕ) (more : List ℕ) → small n ≡ true → given (word_of k n ∷ more) 0 k ≡ Some n
-given_word k n more s = grind arith
-
-pub given_other : (k j n : ℕ) (more : List ℕ) → small n ≡ true → eqb j k ≡ false → given (word_of j n ∷ more) 0 k ≡ None
-given_other k j n more s d = grind arith
-
--- no word of another kind is taken for one of kind k
-pub given_skips : (k j : ℕ) (o : Option ℕ) (more : List ℕ) → small_if o ≡ true → eqb j k ≡ false → given more 0 k ≡ None → given (option_words j o ++ more) 0 k ≡ None
-given_skips k j o more s d e = grind arith
-
 pub given_read : (ws : List ℕ) (i k : ℕ) (o : Option ℕ) (more : List ℕ) → drop i ws ≡ option_words k o ++ more → small_if o ≡ true → given more 0 k ≡ None → given ws i k ≡ o
 given_read ws i k o more e s n = grind (arith, given_from)
-
-pub past_given : (ws : List ℕ) (i k : ℕ) (o : Option ℕ) → given ws i k ≡ o → past ws i k ≡ i + length (option_words k o)
-past_given ws i k o e = grind arith
 
 -- what is given is there
 

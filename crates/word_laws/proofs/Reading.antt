@@ -1,28 +1,24 @@
 -- The words of a table are read as that table.
 use Rattle.std.proofs.lemmas.Grind.{common_steps}
-use Rattle.std.proofs.Common.{◌≡◌, ℕ, zero, suc, ◌+◌, ◌-◌, ◌<◌, ◌≤◌, Bool, true, false, eqb, ltb, List, [], ◌∷◌, ◌++◌, length, drop, Some, None, Ok, Err, Option, Result, sym, refl, ap, ◌∙◌, subst, append_assoc, append-nil, arith, length-append, drop_at}
+use Rattle.std.proofs.Common.{◌≡◌, ℕ, zero, suc, ◌+◌, ◌-◌, ◌<◌, ◌≤◌, Bool, true, false, List, [], ◌∷◌, ◌++◌, length, drop, Some, None, Ok, Err, Option, Result, sym, refl, ap, ◌∙◌, append_assoc, append-nil, arith, length-append, drop_at}
 use lib.Seq.{append_snoc}
 use Rattle.std.specs.List.{flat_map, AllByRecursion}
-use Rattle.std.proofs.lemmas.List.{flat_map_more, nil_from_length}
-use Rattle.std.proofs.lemmas.Bool.{and_parts, not-false, eqb-true, lt-ltb}
+use Rattle.std.proofs.lemmas.Bool.{cond-true, and_parts, lt-ltb}
 use Rattle.rows.specs.declared.fault.Fault.{Fault}
-use Rattle.rows.specs.declared.fault.Fault.TheVariants.{TableFull}
 use Rattle.std.specs.List.{list_all}
-use Rattle.rows.specs.Table.{ActorRow, ChannelRow, Table, empty_table, actor_fault, channel_fault, lawful, add_actor, add_channel}
+use Rattle.rows.specs.Table.{ActorRow, ChannelRow, Table, actor_fault, channel_fault, lawful, add_actor, add_channel}
 use Rattle.rows.proofs.Parts.{passes_none}
-use Rattle.words.proofs.Checks.{check_from}
-use Rattle.table.proofs.Lawful.{lawful_parts, lawful_with_actor, lawful_with_channel}
+use Rattle.table.proofs.Lawful.{lawful_parts}
 use Rattle.words.specs.declared.fault.WordFault.{WordFault}
 use Rattle.words.specs.declared.fault.LoadFault.{LoadFault}
 use Rattle.words.specs.declared.fault.LoadFault.TheVariants.{Word, Row}
 use Rattle.words.specs.Format.{word_of, actor_words, channel_words, row_words, table_words, Describes}
 use Rattle.words.specs.Fitting.{small, ActorFits, ChannelFits}
-use Rattle.words.specs.Records.{Part, actor_part, channel_part, end_part, record_at, actor_of, channel_of}
+use Rattle.words.specs.Records.{Part, actor_part, channel_part, end_part, actor_of, channel_of}
 use Rattle.words.specs.Loads.{has_channels, rows_from, table_read}
 use Rattle.word_laws.proofs.Places.{drop_past}
-use Rattle.word_laws.proofs.RowRecords.{Over, over_head, actors_over, channels_over, ends, ends_fit, actor_read, actor_again, channel_read, channel_again, end_read}
+use Rattle.word_laws.proofs.RowRecords.{Over, over_head, actors_over, channels_over, actor_read, actor_again, channel_read, channel_again, end_read}
 use Rattle.words.proofs.Fits.{good_actor, good_channel, actor_fits, channel_fits, rows_few, rows_many}
-use Rattle.word_laws.proofs.RowsFound.{FoundActor, FoundChannel, record_found}
 
 -- one more record
 
@@ -115,7 +111,7 @@ module _ (ws rest : List ℕ) (over : Over rest) (records : ℕ) where
       let same = append_snoc xs c cs in
       channel_step all ws h (rows_of rows xs) c more from (channel_fits rows c law.few_actors law.good_actors none)
       (channels_over cs rest (channels_fit rows law.few_actors law.good_actors cs good.1) over)
-      (check_from (ltb (length xs) 128) TableFull (channel_fault rows c) (lt-ltb (length xs) 128 room) none)
+      (cond-true _ _ _ (lt-ltb (length xs) 128 room) ∙ none)
       ∙ channels_pass all (h + length part) rows (xs ++ c ∷ []) cs (ap (λ l. lawful (rows_of rows l)) same ∙ l)
       (drop_past ws h (h + length part) part more from refl) left
       ∙ (λ i. rows_from records ws (after i) (rows_of rows (same i)))
@@ -148,7 +144,7 @@ module _ (ws rest : List ℕ) (over : Over rest) (records : ℕ) where
       actor_step all ws h (rows_of xs []) a more from (actor_fits a none)
       (actors_over ys last (actors_fit ys good.1) (channels_over cs rest (channels_fit rows law.few_actors law.good_actors cs law.good_channels) over))
       refl
-      (check_from (ltb (length xs) 64) TableFull (actor_fault a) (lt-ltb (length xs) 64 room) none)
+      (cond-true _ _ _ (lt-ltb (length xs) 64 room) ∙ none)
       ∙ actors_pass all (h + length part) (xs ++ a ∷ []) ys cs (ap (λ r. lawful (rows_of r cs)) same ∙ l)
       (drop_past ws h (h + length part) part more from refl) left
       ∙ (λ i. rows_from records ws (after i) (rows_of (same i) cs))

@@ -1,23 +1,23 @@
 -- What a refusal of the words means.
-use Rattle.std.proofs.Common.{◌≡◌, ℕ, zero, suc, ◌+◌, ◌<◌, ◌≤◌, true, false, not, eqb, List, [], ◌∷◌, ◌++◌, length, drop, Some, None, Ok, Err, Option, Result, sym, refl, ap, ◌∙◌, subst, arith, length-append}
+use Rattle.std.proofs.Common.{◌≡◌, ℕ, zero, suc, ◌+◌, ◌<◌, ◌≤◌, true, false, not, eqb, List, [], ◌++◌, length, drop, Some, None, Ok, Err, Option, Result, sym, refl, ap, ◌∙◌, subst, arith}
 use Rattle.std.proofs.lemmas.List.{drop_at, nil_from_length}
 use Rattle.std.proofs.lemmas.Grind.{common_steps}
-use Rattle.std.proofs.lemmas.Bool.{not_from_false, not-false, lt-ltb, ne_eqb, eqb-true}
+use Rattle.std.proofs.lemmas.Bool.{not-false, lt-ltb, eqb-true}
 use Rattle.rows.specs.declared.fault.Fault.{Fault}
 use Rattle.rows.specs.Table.{ActorRow, ChannelRow, Table, empty_table, lawful, add_actor, add_channel}
-use Rattle.table.proofs.Lawful.{lawful_with_actor, lawful_with_channel}
+use Rattle.table.proofs.Lawful.{lawful_with_actor}
 use Rattle.words.specs.declared.fault.WordFault.{WordFault}
 use Rattle.words.specs.declared.fault.WordFault.TheVariants.{Missing}
 use Rattle.words.specs.declared.fault.LoadFault.{LoadFault}
 use Rattle.words.specs.declared.fault.LoadFault.TheVariants.{Word, Row}
-use Rattle.words.specs.Format.{word_of, actor_words, channel_words, row_words, Describes}
+use Rattle.words.specs.Format.{actor_words, channel_words, row_words, Describes}
 use Rattle.words.specs.Fitting.{ActorFits, ChannelFits}
 use Rattle.word_laws.specs.Offends.{First, WordRefused, RowRefused, actor_refused, channel_refused, RefusedBy, by_row, by_word}
 use Rattle.words.specs.Records.{Part, actor_part, channel_part, end_part, record_at, actor_of, channel_of}
 use Rattle.words.specs.Loads.{has_channels, rows_from, table_read}
 use Rattle.word_laws.proofs.RowRecords.{Over, over_head, ends, ends_fit, actor_again, channel_again}
 use Rattle.word_laws.proofs.RowsFound.{FoundActor, FoundChannel, record_found}
-use Rattle.word_laws.proofs.Reading.{add_then, record_then, words_with_actor, words_with_channel, Sofar, sofar_more, rows_pass}
+use Rattle.word_laws.proofs.Reading.{add_then, record_then, words_with_actor, Sofar, sofar_more, rows_pass}
 use Rattle.word_laws.proofs.Reached.{Reached, start, past_actor, past_channel}
 use Rattle.word_laws.proofs.Longest.{actor_longest, channel_longest, first_actor, first_channel}
 use Rattle.word_laws.proofs.Offending.{head_missing, word_refused}

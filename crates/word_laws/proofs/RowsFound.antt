@@ -1,18 +1,12 @@
 -- A record that is read is that of a row, or the end.
 use Rattle.std.proofs.lemmas.Grind.{common_steps}
-use Rattle.std.proofs.lemmas.Option.{gets}
-use Rattle.std.proofs.Common.{◌≡◌, ℕ, suc, ◌+◌, ◌<◌, ◌≤◌, Bool, true, false, cond, not, ◌&&◌, eqb, ltb, List, [], ◌∷◌, ◌++◌, map, length, drop, Some, None, Ok, Err, Option, sym, refl, ap, ◌∙◌, subst, append_assoc, arith}
-use Rattle.std.specs.List.{between}
+use Rattle.std.proofs.Common.{◌≡◌, ℕ, suc, ◌+◌, ◌<◌, Bool, false, List, [], ◌∷◌, ◌++◌, map, length, drop, Some, Ok, Option, sym, refl, ap, ◌∙◌, subst, append_assoc, arith}
 use Rattle.std.proofs.lemmas.List.{drop_all}
-use Rattle.std.proofs.lemmas.Bool.{and_parts, not-true, ltb-true, eqb-true}
 use Rattle.std.specs.List.{slice_get}
 use Rattle.rows.specs.Table.{ActorRow, ChannelRow, actor_with, channel_with, pin_of, placed}
-use Rattle.words.specs.Checks.{check}
-use Rattle.words.proofs.Checks.{check_parts}
-use Rattle.words.specs.declared.fault.WordFault.TheVariants.{Misplaced, WrongEnd}
 use Rattle.words.specs.Format.{kind_of, content_of, word_of, option_words, actor_words, ends_content, channel_words}
 use Rattle.words.specs.Fitting.{small_if, ActorFits, ChannelFits}
-use Rattle.words.specs.Records.{Part, actor_part, channel_part, end_part, wrong_kind, numbers_fault, given, past, writer_in, reader_in, writes_in, reads_in, actor_at, channel_at, end_at, record_at}
+use Rattle.words.specs.Records.{Part, actor_part, channel_part, end_part, given, past, writer_in, reader_in, writes_in, reads_in, record_at}
 use Rattle.words.proofs.Whole.{ActorRead, ChannelRead, EndRead, read_as}
 use Rattle.words.proofs.Bits.{word_again, writer_small, reader_small, writes_small, reads_small, ends_again}
 use Rattle.word_laws.proofs.Places.{drop_there, between_front, given_fits, given_there, numbers_part, numbers_there}

@@ -1,5 +1,5 @@
 -- A row made of the words of its record.
-use Rattle.std.proofs.Common.{◌≡◌, ℕ, suc, ◌+◌, List, map, Option, ap, ◌∙◌, arith}
+use Rattle.std.proofs.Common.{◌≡◌, ℕ, suc, ◌+◌, List, map, Option, arith}
 use Rattle.std.specs.List.{between}
 use Rattle.rows.specs.declared.row.Placement.{Placement}
 use Rattle.rows.specs.Table.{actor_with, placed}

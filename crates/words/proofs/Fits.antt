@@ -1,19 +1,13 @@
 -- The rows of a lawful table fit the words, and take few of them.
 use Rattle.std.proofs.lemmas.Grind.{common_steps}
-use Rattle.std.proofs.Common.{◌≡◌, ℕ, zero, suc, ◌+◌, ◌*◌, ◌<◌, ◌≤◌, Bool, true, eqb, leb, List, [], ◌∷◌, ◌++◌, map, length, Some, None, Option, refl, arith, length-append}
+use Rattle.std.proofs.Common.{◌≡◌, ℕ, zero, suc, ◌+◌, ◌*◌, ◌<◌, ◌≤◌, Bool, true, List, [], ◌∷◌, length, None, arith, length-append}
 use Rattle.std.specs.List.{flat_map}
-use Rattle.std.proofs.lemmas.List.{length-map}
-use Rattle.std.proofs.lemmas.Bool.{and_parts, leb-true, lt-ltb, eqb-true}
-use Rattle.rows.specs.declared.fault.Fault.TheVariants.{PhaseCount, TimeRange, NotBeforeRange, PinRange}
-use Rattle.rows.specs.declared.row.Placement.{Placement}
-use Rattle.rows.specs.declared.row.Placement.TheVariants.{Free, Pinned}
 use Rattle.std.specs.List.{list_all}
-use Rattle.rows.specs.Table.{ActorRow, ChannelRow, Table, within, within_if_given, pin_within, good_rates, phases_at, pin_of, passes, actor_fault, channel_fault, lawful}
-use Rattle.rows.proofs.Parts.{passes_none, accepted_phases, accepted}
-use Rattle.words.proofs.Checks.{check_parts}
-use Rattle.table.proofs.Lawful.{every_weaker, lawful_parts}
-use Rattle.words.specs.Format.{word_of, option_words, actor_words, channel_words, row_words}
-use Rattle.words.specs.Fitting.{small, small_if, ActorFits, ChannelFits}
+use Rattle.rows.specs.Table.{ActorRow, ChannelRow, Table, within, good_rates, phases_at, passes, actor_fault, channel_fault, lawful}
+use Rattle.rows.proofs.Parts.{passes_none, accepted}
+use Rattle.table.proofs.Lawful.{every_weaker}
+use Rattle.words.specs.Format.{actor_words, channel_words, row_words}
+use Rattle.words.specs.Fitting.{small, ActorFits, ChannelFits}
 
 -- a number of a range that fits
 

@@ -1,4 +1,3 @@
-pub mod Checks
 pub mod Bits
 pub mod Fits
 pub mod Found

@@ -1,17 +1,15 @@
 -- The records of a table of words, one after the other.
-use Rattle.std.proofs.Common.{◌≡◌, ℕ, zero, suc, ◌+◌, ◌<◌, ◌≤◌, List, length, Some, None, Ok, Err, Option, Result, sym, ap, ◌∙◌, subst, arith}
+use Rattle.std.proofs.Common.{◌≡◌, ℕ, suc, ◌+◌, ◌<◌, ◌≤◌, List, length, Ok, Err, Result, ◌∙◌, arith}
 use Rattle.rows.specs.declared.fault.Fault.{Fault}
 use Rattle.rows.specs.Steps.{Does}
 use Rattle.rows.specs.Table.{Table, add_actor, add_channel}
 use Rattle.rows.proofs.Steps.{when_granted, when_refused}
 use Rattle.words.specs.declared.fault.WordFault.{WordFault}
-use Rattle.words.specs.declared.fault.WordFault.TheVariants.{Missing}
 use Rattle.words.specs.declared.fault.LoadFault.{LoadFault}
 use Rattle.words.specs.declared.fault.LoadFault.TheVariants.{Word, Row}
 use Rattle.words.specs.Records.{Part, actor_part, channel_part, end_part, record_at, actor_of, channel_of}
 use Rattle.words.specs.Loads.{rows_from, has_channels}
 use Rattle.std.proofs.lemmas.Option.{slice_get_past}
-use Rattle.words.proofs.Headed.{no_head}
 use Rattle.words.proofs.Whole.{head_there, read_as, actor_within, channel_within}
 
 -- the answer for all the words is the answer for those to come, with so many records at most

@@ -1,18 +1,12 @@
 -- What a record that is read whole has: its head, its numbers, and an end within the words.
 use Rattle.std.proofs.lemmas.Grind.{common_steps}
 use Rattle.std.proofs.lemmas.Option.{gets}
-use Rattle.std.proofs.Common.{◌≡◌, ℕ, zero, suc, ◌+◌, ◌-◌, ◌<◌, ◌≤◌, Bool, true, false, cond, not, eqb, ltb, List, [], ◌∷◌, length, get_or, drop, is_some, Some, None, Ok, Err, Option, sym, refl, ap, ◌∙◌, subst, arith, length-drop}
+use Rattle.std.proofs.Common.{◌≡◌, ℕ, zero, suc, ◌+◌, ◌<◌, ◌≤◌, Bool, false, List, length, Some, None, Ok, arith}
 use Rattle.std.specs.List.{between}
-use Rattle.std.proofs.lemmas.List.{length-take-le, get_or-take, get_or-drop}
-use Rattle.std.proofs.lemmas.Bool.{and_parts, not-true, ltb-true, eqb-true}
-use Rattle.rows.specs.Steps.{answer}
+use Rattle.std.proofs.lemmas.Bool.{ltb-true, eqb-true}
 use Rattle.std.specs.List.{slice_get}
-use Rattle.words.specs.Checks.{check}
-use Rattle.words.proofs.Checks.{check_parts}
-use Rattle.words.specs.declared.fault.WordFault.TheVariants.{Misplaced, WrongEnd}
 use Rattle.words.specs.Format.{kind_of, content_of}
-use Rattle.words.specs.Records.{Part, actor_part, channel_part, end_part, given, past, numbers_fault, wrong_kind, record_at, actor_at, channel_at, end_at, writes_in, reads_in, head_content}
-use Rattle.words.proofs.Headed.{by}
+use Rattle.words.specs.Records.{Part, actor_part, channel_part, end_part, past, numbers_fault, record_at, writes_in, reads_in, head_content}
 
 -- numbers that are all there
 
@@ -23,10 +17,6 @@ module _ (ws : List ℕ) where
 
   pub past_within : (i kind : ℕ) → i ≤ length ws → (i ≤ past ws i kind) × (past ws i kind ≤ length ws)
   past_within i kind h = grind (arith, gets)
-
-  -- a part of the words
-  pub between_length : (h e : ℕ) → h ≤ e → e ≤ length ws → length (between h e ws) ≡ e - h
-  between_length h e l m = grind (arith, common_steps)
 
 -- what is known of a record once it is read
 
@@ -74,7 +64,6 @@ pub record Within (ws : List ℕ) (h : ℕ) (part : List ℕ) (content numbers :
   pub ends : h + length part ≤ length ws
 
 module _ (ws : List ℕ) (h : ℕ) (part : List ℕ) where
-
   pub actor_within : (after : Bool) (r : ActorRead after ws h part) → Within ws h part (content_of r.head) (content_of r.head)
   actor_within after r = grind (arith, common_steps, gets, numbers_within)
 
