@@ -2,7 +2,8 @@
 use Rattle.std.proofs.Common.{◌≡◌, ℕ, ◌^◌, ◌<◌, Bool, true, ◌&&◌, ltb, leb, List, [], ◌∷◌, ◌++◌, map, length, Some, None, decimal, refl, ap, ◌∙◌, arith}
 use Rattle.std.specs.Str.Parse.{digits_value}
 use Rattle.std.specs.Char.{is_ascii_digit}
-use Rattle.std.specs.List.{flat_map}
+use Rattle.std.specs.List.{flat_map, list_all}
+use Rattle.std.proofs.lemmas.List.Folds.{flat_map-map}
 use Rattle.std.specs.Str.{all_ascii_digits}
 use Rattle.std.proofs.lemmas.Str.Parse.{IsNumeralModel, numerals_by_value, tells_all_ascii_digits}
 use Rattle.std.proofs.lemmas.Fmt.{digits_decimal, digits_value-decimal, decimal_nonempty}
@@ -20,8 +21,7 @@ abbrev pub small : ℕ → Bool
 small n = ltb n 4294967296
 
 abbrev pub all_small : List ℕ → Bool
-all_small [] = true
-all_small (n ∷ ns) = small n && all_small ns
+all_small = list_all small
 
 digit_letter : (b : ℕ) → is_ascii_digit b ≡ true → letter b ≡ true
 digit_letter b h =
@@ -37,7 +37,7 @@ digits_letters (b ∷ w) h =
     let p = and_parts (is_ascii_digit b) (all_ascii_digits w) h in and_from (letter b) (letters w) (digit_letter b p.0) (digits_letters w p.1)
 
 letters_word : (w : List ℕ) → 0 < length w → letters w ≡ true → wordly w ≡ true
-letters_word [] h k = absurd (let z : ⊥ = omega arith in z)
+letters_word [] h k = absurd (omega arith)
 letters_word (b ∷ w) h k = k
 
 module _ (n : ℕ) (s : small n ≡ true) where
@@ -69,5 +69,4 @@ list_tokens (n ∷ ns) h =
     let a = figures_token n p.0 in let b = list_tokens ns p.1 in λ i. a i ∷ b i
 
 pub list_spaced : (ns : List ℕ) → spaced (map decimal ns) ≡ flat_map spaced_text ns
-list_spaced [] = refl
-list_spaced (n ∷ ns) = ap (λ l. (32 ∷ decimal n) ++ l) (list_spaced ns)
+list_spaced ns = flat_map-map (λ w. 32 ∷ w) decimal ns

@@ -32,11 +32,9 @@ under n high h k = let l = leb-true n high h in lt-ltb n 4294967296 (omega arith
 within_small : (low high n : ℕ) → high < 4294967296 → within low high n ≡ true → small n ≡ true
 within_small low high n k h = under n high (and_parts (leb low n) (leb n high) h).1 k
 
-every_small : (low high : ℕ) (ns : List ℕ) → high < 4294967296 → list_all (within low high) ns ≡ true → all_small ns ≡ true
-every_small low high [] k h = refl
-every_small low high (n ∷ ns) k h =
-    let p = and_parts (within low high n) (list_all (within low high) ns) h in
-    and_from (small n) (all_small ns) (within_small low high n k p.0) (every_small low high ns k p.1)
+all_within_small : (low high : ℕ) (ns : List ℕ) → high < 4294967296 → list_all (within low high) ns ≡ true → all_small ns ≡ true
+all_within_small low high [] k h = refl
+all_within_small low high (n ∷ ns) k h = grind (arith, within_small low high n k, all_within_small low high ns k)
 
 given_small : (low high : ℕ) (o : Option ℕ) → high < 4294967296 → within_if_given low high o ≡ true → small_if o ≡ true
 given_small low high None k h = refl
@@ -56,7 +54,7 @@ actor_small a h =
     let r = check_parts _ NotBeforeRange _ q.1 in
     let s = check_parts _ PinRange _ r.1 in
     record {
-      times = every_small 1 1000000 a.times million q.0;
+      times = all_within_small 1 1000000 a.times million q.0;
       not_before = given_small 0 1000000 a.not_before million r.0;
       pin = pin_small a.placement s.0;
     }
@@ -70,8 +68,8 @@ channel_small rows c few h =
     record {
       writer = lt-ltb c.writer 4294967296 (omega arith);
       reader = lt-ltb c.reader 4294967296 (omega arith);
-      writes = every_small 0 255 c.writes (omega arith) (and_parts _ _ rates.0).0;
-      reads = every_small 0 255 c.reads (omega arith) (and_parts _ _ rates.1).0;
+      writes = all_within_small 0 255 c.writes (omega arith) (and_parts _ _ rates.0).0;
+      reads = all_within_small 0 255 c.reads (omega arith) (and_parts _ _ rates.1).0;
       ceiling = given_small 1 65535 c.ceiling (omega arith) ok.capped;
     }
 

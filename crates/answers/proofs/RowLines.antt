@@ -15,7 +15,8 @@ use Rattle.script.specs.Reading.{Reading, and_then, this_word, first_number, num
 use Rattle.script.specs.Plain.{PlainEdit, PlainCall, actor_added, channel_added, edited}
 use Rattle.script.specs.Grammar.{call_of}
 use Rattle.answers.specs.Texts.{spaced_text, option_text, actor_text, channel_text}
-use Rattle.answers.proofs.Spaced.{wordly, all_words, spaced, words_read, line_read, spaced_append, words_append}
+use Rattle.answers.proofs.Spaced.{wordly, all_words, spaced, words_read, line_read, words_append}
+use Rattle.std.proofs.lemmas.Grind.{flat_map-append}
 use Rattle.answers.proofs.Figures.{small, all_small, figures_word, figures_token, list_words, list_tokens, list_spaced}
 
 -- an optional part
@@ -127,7 +128,7 @@ module _ (a : ActorRow) (s : SmallActor a) where
       let p = list_spaced a.times in
       let q = opt_spaced (codes "not-before") a.not_before in
       let r = opt_spaced (codes "pin") (pin_of a.placement) in
-      let e = spaced_append d (x ++ y) ∙ ap (λ l. spaced d ++ l) (spaced_append x y) ∙ (λ i. p i ++ (q i ++ r i)) in
+      let e = flat_map-append (λ w. 32 ∷ w) d (x ++ y) ∙ ap (λ l. spaced d ++ l) (flat_map-append (λ w. 32 ∷ w) x y) ∙ (λ i. p i ++ (q i ++ r i)) in
       actor_joins (codes "actor times") (flat_map spaced_text a.times) (option_text (codes " not-before ") a.not_before) (option_text (codes " pin ") (pin_of a.placement)) t
       ∙ ap (λ l. (codes "actor times" ++ l) ++ 10 ∷ t) (sym e)
 
@@ -204,7 +205,7 @@ module _ (c : ChannelRow) (s : SmallChannel c) where
       let q = list_spaced c.reads in
       let o = opt_spaced (codes "ceiling") c.ceiling in
       let after : spaced (d ++ reads_words c) ≡ flat_map spaced_text c.writes ++ (codes " reads" ++ (flat_map spaced_text c.reads ++ option_text (codes " ceiling ") c.ceiling)) =
-      spaced_append d (reads_words c) ∙ ap (λ l. spaced d ++ (codes " reads" ++ l)) (spaced_append e x) ∙ (λ i. p i ++ (codes " reads" ++ (q i ++ o i))) in
+      flat_map-append (λ w. 32 ∷ w) d (reads_words c) ∙ ap (λ l. spaced d ++ (codes " reads" ++ l)) (flat_map-append (λ w. 32 ∷ w) e x) ∙ (λ i. p i ++ (codes " reads" ++ (q i ++ o i))) in
       channel_joins (codes "channel ") (decimal c.writer) (codes " ") (decimal c.reader) (codes " writes") (flat_map spaced_text c.writes)
       (codes " reads") (flat_map spaced_text c.reads) (option_text (codes " ceiling ") c.ceiling) t
       ∙ ap (λ l. (codes "channel " ++ (decimal c.writer ++ (codes " " ++ (decimal c.reader ++ (codes " writes" ++ l))))) ++ 10 ∷ t) (sym after)

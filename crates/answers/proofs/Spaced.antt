@@ -1,6 +1,7 @@
 -- Words with a space before each: the tokens that they are read as, and that they stay on one line.
 use Rattle.std.proofs.Common.{◌≡◌, ℕ, Bool, true, false, not, ◌&&◌, eqb, List, [], ◌∷◌, ◌++◌, map, sym, refl, ap, ◌∙◌, append_assoc, append-nil, arith}
-use Rattle.std.specs.List.{flat_map}
+use Rattle.std.specs.List.{flat_map, list_all}
+use Rattle.std.proofs.lemmas.Grind.{common_steps}
 use Rattle.std.proofs.lemmas.Bool.{and_parts, and_from, not-true, cond-false}
 use Rattle.tokens.specs.declared.token.Token.{Token}
 use Rattle.tokens.specs.Tokens.{token_of}
@@ -11,8 +12,7 @@ abbrev pub letter : ℕ → Bool
 letter b = not (eqb b 10) && (not (eqb b 35) && not (blank b))
 
 abbrev pub letters : List ℕ → Bool
-letters [] = true
-letters (b ∷ bs) = letter b && letters bs
+letters = list_all letter
 
 -- a word has a byte
 abbrev pub wordly : List ℕ → Bool
@@ -20,8 +20,7 @@ wordly [] = false
 wordly (b ∷ bs) = letters (b ∷ bs)
 
 abbrev pub all_words : List (List ℕ) → Bool
-all_words [] = true
-all_words (w ∷ ws) = wordly w && all_words ws
+all_words = list_all wordly
 
 abbrev pub spaced : List (List ℕ) → List ℕ
 spaced ws = flat_map (λ w. 32 ∷ w) ws
@@ -40,7 +39,7 @@ word_read (b ∷ w) before begun rest h =
     ∙ word_read w before (begun ++ b ∷ []) rest p.1 ∙ ap (λ l. tokens_from before l rest) (append_assoc begun (b ∷ []) w)
 
 with_word_lem : (w : List ℕ) (before : List Token) → wordly w ≡ true → with_word before w ≡ before ++ token_of w ∷ []
-with_word_lem [] before h = let z : ◌≡◌ {A = ℕ} 0 1 = cc in absurd (let y : ⊥ = omega arith in y)
+with_word_lem [] before h = absurd (cc)
 with_word_lem (b ∷ w) before h = refl
 
 -- words that follow the one that is begun
@@ -60,13 +59,7 @@ words_read w ws h k =
 
 -- no line feed
 abbrev flat : List ℕ → Bool
-flat [] = true
-flat (b ∷ bs) = not (eqb b 10) && flat bs
-
-flat_append : (a b : List ℕ) → flat a ≡ true → flat b ≡ true → flat (a ++ b) ≡ true
-flat_append [] b h k = k
-flat_append (x ∷ a) b h k =
-    let p = and_parts (not (eqb x 10)) (flat a) h in and_from (not (eqb x 10)) (flat (a ++ b)) p.0 (flat_append a b p.1 k)
+flat = list_all (λ b. not (eqb b 10))
 
 flat_letters : (w : List ℕ) → letters w ≡ true → flat w ≡ true
 flat_letters [] h = refl
@@ -77,7 +70,7 @@ flat_letters (b ∷ w) h =
 flat_spaced : (ws : List (List ℕ)) → all_words ws ≡ true → flat (spaced ws) ≡ true
 flat_spaced [] h = refl
 flat_spaced (w ∷ ws) h =
-    let p = and_parts (wordly w) (all_words ws) h in flat_append w (spaced ws) (flat_letters w (words_letters w p.0)) (flat_spaced ws p.1)
+    let p = and_parts (wordly w) (all_words ws) h in grind (arith, common_steps, flat_letters w (words_letters w p.0), flat_spaced ws p.1)
 
 flat_read : (l begun rest : List ℕ) → flat l ≡ true → lines_from begun (l ++ rest) ≡ lines_from (begun ++ l) rest
 flat_read [] begun rest h = ap (λ k. lines_from k rest) (sym (append-nil begun))
@@ -89,13 +82,7 @@ flat_read (b ∷ l) begun rest h =
 -- a line of words ends at the line feed that follows it
 pub line_read : (w : List ℕ) (ws : List (List ℕ)) (rest : List ℕ) → wordly w ≡ true → all_words ws ≡ true
     → lines_from [] ((w ++ spaced ws) ++ 10 ∷ rest) ≡ (w ++ spaced ws) ∷ lines_from [] rest
-line_read w ws rest h k = flat_read (w ++ spaced ws) [] (10 ∷ rest) (flat_append w (spaced ws) (flat_letters w (words_letters w h)) (flat_spaced ws k))
-
-pub spaced_append : (a b : List (List ℕ)) → spaced (a ++ b) ≡ spaced a ++ spaced b
-spaced_append [] b = refl
-spaced_append (w ∷ a) b = ap (λ l. 32 ∷ w ++ l) (spaced_append a b) ∙ ap (λ l. 32 ∷ l) (sym (append_assoc w (spaced a) (spaced b)))
+line_read w ws rest h k = flat_read (w ++ spaced ws) [] (10 ∷ rest) (grind (arith, common_steps, flat_letters w (words_letters w h), flat_spaced ws k))
 
 pub words_append : (a b : List (List ℕ)) → all_words a ≡ true → all_words b ≡ true → all_words (a ++ b) ≡ true
-words_append [] b h k = k
-words_append (w ∷ a) b h k =
-    let p = and_parts (wordly w) (all_words a) h in and_from (wordly w) (all_words (a ++ b)) p.0 (words_append a b p.1 k)
+words_append a b h k = grind (arith, common_steps)

@@ -1,17 +1,48 @@
 -- The lines of a text, one after the other.
-use Rattle.std.proofs.Common.{◌≡◌, ℕ, ◌+◌, ◌<◌, ◌≤◌, List, length, get_or, drop, Ok, Result, sym, ap, ◌∙◌, subst, arith}
-use Rattle.std.specs.List.{slice_split, enumerate_from}
+use Rattle.std.proofs.Common.{◌≡◌, ℕ, ◌+◌, ◌<◌, ◌≤◌, Bool, true, false, cond, eqb, List, [], ◌∷◌, ◌++◌, length, get_or, drop, Ok, Result, refl, sym, ap, ◌∙◌, append_assoc, append-nil, subst, arith}
+use Rattle.std.specs.List.{slice_split, onto_first, enumerate_from}
 use Rattle.std.proofs.lemmas.List.{at_drop_more, at_drop_all}
+use Rattle.std.proofs.lemmas.List.Splits.{length-slice_split}
 use Rattle.std.proofs.lemmas.List.FromFn.{length-enumerate_from, get_or-enumerate_from}
 use Rattle.tokens.specs.declared.expected.ExpectedAt.{ExpectedAt}
 use Rattle.tokens.specs.declared.expected.ReadError.{ReadError}
 use Rattle.tokens.specs.declared.expected.ReadError.TheVariants.{NoMemory, NoCall}
 use Rattle.tokens.specs.declared.expected.Expected.{Expected}
-use Rattle.tokens.specs.Lines.{tokens_of, lines_of}
-use Rattle.tokens.proofs.Lines.{feed, lines_by_split}
+use Rattle.tokens.specs.Lines.{tokens_of, lines_from, lines_of}
 use Rattle.script.specs.Reading.{and_then}
 use Rattle.script.specs.Scripts.{Sofar, finished, line_of, numbered, lines_read}
 use Rattle.script.specs.Whole.{FailsAt}
+
+abbrev pub feed : ℕ → Bool
+feed b = eqb b 10
+
+-- the line that was begun goes before the first
+abbrev onto_line : List ℕ → List (List ℕ) → List (List ℕ)
+onto_line w [] = w ∷ []
+onto_line w (p ∷ ps) = (w ++ p) ∷ ps
+
+onto_none : (ps : List (List ℕ)) → 0 < length ps → onto_line [] ps ≡ ps
+onto_none [] h = absurd (omega arith)
+onto_none (p ∷ ps) h = refl
+
+onto_byte : (w : List ℕ) (b : ℕ) (ps : List (List ℕ)) → onto_line (w ++ b ∷ []) ps ≡ onto_line w (onto_first b ps)
+onto_byte w b [] = refl
+onto_byte w b (p ∷ ps) = ap (λ x. x ∷ ps) (append_assoc w (b ∷ []) p)
+
+one_byte : (t : Bool) (w : List ℕ) (b : ℕ) (bs : List ℕ) (ps : List (List ℕ)) → lines_from [] bs ≡ ps → lines_from (w ++ b ∷ []) bs ≡ onto_line (w ++ b ∷ []) ps
+    → cond t (w ∷ lines_from [] bs) (lines_from (w ++ b ∷ []) bs) ≡ onto_line w (cond t ([] ∷ ps) (onto_first b ps))
+one_byte true w b bs ps x y = ap (λ l. w ∷ l) x ∙ ap (λ l. l ∷ ps) (sym (append-nil w))
+one_byte false w b bs ps x y = y ∙ onto_byte w b ps
+
+split_some : (text : List ℕ) → 0 < length (slice_split feed text)
+split_some text = omega (arith, length-slice_split feed text)
+
+split_from : (w text : List ℕ) → lines_from w text ≡ onto_line w (slice_split feed text)
+split_from w [] = ap (λ l. l ∷ []) (sym (append-nil w))
+split_from w (b ∷ bs) = one_byte (feed b) w b bs (slice_split feed bs) (split_from [] bs ∙ onto_none _ (split_some bs)) (split_from (w ++ b ∷ []) bs)
+
+pub lines_by_split : (text : List ℕ) → slice_split feed text ≡ lines_of text
+lines_by_split text = sym (split_from [] text ∙ onto_none _ (split_some text))
 
 -- the line at k, as `enumerate` gives it
 abbrev pub IsLineAt : List (List ℕ) → ℕ → ℕ × List ℕ → Type 0

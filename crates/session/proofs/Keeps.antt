@@ -36,7 +36,7 @@ abbrev pub Law : List Call → Type 0
 Law calls = (b : Book) (es : List Edit) → Pending b es → (book_after b calls).standing ≡ edited b.standing (kept_edits es calls (answers b calls))
 
 absurdly : {X : Type 0} (b : Bool) → b ≡ true → b ≡ false → X
-absurdly b e f = let z : ◌≡◌ {A = ℕ} 0 1 = cc in absurd (let w : ⊥ = omega arith in w)
+absurdly b e f = absurd (cc)
 
 module _ (b : Book) (es : List Edit) (p : Pending b es) where
   abbrev opened : Book

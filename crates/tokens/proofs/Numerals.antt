@@ -78,7 +78,7 @@ module _ {F : Type 0} (E : Type 0) (g : Mut F (ℕ × (Bor ℕ × Unit {0})) (Op
 
   none_left : (xs : List ℕ) (a : ℕ) → length xs ≡ 0 → numeral_from a xs ≡ Some a
   none_left [] a e = refl
-  none_left (x ∷ xs) a e = absurd (let z : ⊥ = omega arith in z)
+  none_left (x ∷ xs) a e = absurd (omega arith)
 
   pub read_by_try_fold : (s u : Iter ℕ) (f : F) (n : ℕ) (r : Option ℕ) → TryFoldsItems fronts g branches (λ _ q. q ≡ None) s f n r u → r ≡ numeral_from n s.rest.now
   read_by_try_fold s u f n r (xs, None, h, a, (t, y, e), es, b) = b ∙ sym (read_on xs s t f h n a y es ∙ none_left t.rest.now a e.0)

@@ -14,9 +14,6 @@ use Rattle.word_laws.proofs.Reached.{whole_stops}
 use Rattle.word_laws.proofs.Begun.{lawful_shaped, begins_front, unfinished_begins}
 use Rattle.word_laws.proofs.Refused.{row_answer, read_described, refusal_means}
 
-absurdly : {X : Type 0} → ◌≡◌ {A = ℕ} 0 1 → X
-absurdly z = absurd (let y : ⊥ = omega arith in y)
-
 -- words that begin a table
 
 finished : (xs : List ℕ) → Unfinished xs → (t : Table) → Shaped t → xs ≡ table_words t → ⊥

@@ -102,11 +102,11 @@ zeros_small : (k : ℕ) → list_all small (replicate k 0) ≡ true
 zeros_small zero = refl
 zeros_small (suc k) = zeros_small k
 
-every_join : {X : Type 0} (test : X → Bool) (xs ys : List X) → list_all test xs ≡ true → list_all test ys ≡ true → list_all test (xs ++ ys) ≡ true
-every_join test xs ys e f = grind (arith, common_steps)
+list_all_join : {X : Type 0} (test : X → Bool) (xs ys : List X) → list_all test xs ≡ true → list_all test ys ≡ true → list_all test (xs ++ ys) ≡ true
+list_all_join test xs ys e f = grind (arith, common_steps)
 
-every_parts : {X : Type 0} (test : X → Bool) (xs ys : List X) → list_all test (xs ++ ys) ≡ true → (list_all test xs ≡ true) × (list_all test ys ≡ true)
-every_parts test xs ys e = grind (arith, common_steps)
+list_all_parts : {X : Type 0} (test : X → Bool) (xs ys : List X) → list_all test (xs ++ ys) ≡ true → (list_all test xs ≡ true) × (list_all test ys ≡ true)
+list_all_parts test xs ys e = grind (arith, common_steps)
 
 record Filled (xs : List ℕ) (n : ℕ) : Type 0 where
   ys : List ℕ
@@ -119,7 +119,7 @@ filled xs n l e =
     let ys = replicate k 0 in
     let a = length-append xs (0 ∷ ys) in
     let b : length ys ≡ k = length-replicate k 0 in
-    record { ys = ys; long = omega arith; all_small = every_join small xs (0 ∷ ys) e (zeros_small k) }
+    record { ys = ys; long = omega arith; all_small = list_all_join small xs (0 ∷ ys) e (zeros_small k) }
 
 module _ (ws : List ℕ) (h : ℕ) (t : Table) (s : Sofar ws h t) (w : ℕ) (stands : slice_get ws h ≡ Some w) (j : ℕ) (found : numbers_fault ws (suc h) j ≡ None) where
   numbers_taken : (ns : Numbers ws (suc h) j) → take (suc h + j) ws ≡ row_words t ++ (w ∷ map (word_of 3) ns.numbers)
@@ -158,7 +158,7 @@ module _ (ws : List ℕ) (h : ℕ) (t : Table) (s : Sofar ws h t) (w : ℕ) (sta
       let reads = drop n full in
       let n_long : length writes ≡ n = length-take-le n full (omega arith) in
       let m_long : length reads ≡ m = length-drop n full ∙ (let z : length full - n ≡ m = omega arith in z) in
-      let parts = every_parts small writes reads (ap (list_all small) whole ∙ fill.all_small) in
+      let parts = list_all_parts small writes reads (ap (list_all small) whole ∙ fill.all_small) in
       let c = channel_with (writer_in content) (reader_in content) writes reads None in
       let fits : ChannelFits c =
       record {

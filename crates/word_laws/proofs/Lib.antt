@@ -2,7 +2,6 @@ pub mod Places
 pub mod RowRecords
 pub mod RowsFound
 pub mod Reading
-pub mod Faulty
 pub mod Alike
 pub mod Reached
 pub mod Begun

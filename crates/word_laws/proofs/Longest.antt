@@ -1,27 +1,19 @@
 -- A record that is read is the longest row that the words go on with.
 use Rattle.std.proofs.lemmas.Grind.{common_steps}
 use Rattle.std.proofs.lemmas.Option.{gets}
-use Rattle.std.proofs.Common.{◌≡◌, ℕ, suc, ◌+◌, ◌≤◌, Bool, true, false, List, ◌∷◌, ◌++◌, map, length, take, drop, is_some, Some, Ok, Option, sym, refl, ap, ◌∙◌, arith, length-append, length-drop}
+use Rattle.std.proofs.Common.{◌≡◌, ℕ, suc, ◌+◌, ◌≤◌, Bool, true, false, List, ◌++◌, length, take, drop, Ok, Option, sym, refl, ap, ◌∙◌, arith}
 use Rattle.std.specs.List.{between}
-use Rattle.std.proofs.lemmas.List.{length-map, take_at}
-use Rattle.std.proofs.lemmas.Bool.{cond_both}
+use Rattle.std.proofs.lemmas.List.{take_at}
 use Rattle.rows.specs.Table.{ActorRow, ChannelRow}
-use Rattle.words.specs.Format.{word_of, option_words, actor_words, channel_words}
+use Rattle.words.specs.Format.{option_words, actor_words, channel_words}
 use Rattle.words.specs.Fitting.{small_if, ActorFits, ChannelFits}
 use Rattle.word_laws.specs.Offends.{First}
-use Rattle.words.specs.Records.{actor_part, channel_part, given, past, record_at}
-use Rattle.word_laws.proofs.Places.{drop_past, given_from, given_word, past_given}
+use Rattle.words.specs.Records.{actor_part, channel_part, past, record_at}
+use Rattle.word_laws.proofs.Places.{drop_past, given_from}
 use Rattle.word_laws.proofs.RowRecords.{after_times_lem, after_reads_lem, actor_there, channel_there}
 use Rattle.word_laws.proofs.RowsFound.{record_found}
-use Rattle.words.proofs.Whole.{past_within, between_length}
 
 -- words that may be left out
-
-past_grows : (ws : List ℕ) (i k : ℕ) → i ≤ past ws i k
-past_grows ws i k = cond_both (is_some (given ws i k)) (suc i) i (λ x. i ≤ x) (λ e. omega arith) (λ e. omega arith)
-
-given_first : (ws : List ℕ) (i k n : ℕ) (more : List ℕ) → drop i ws ≡ word_of k n ∷ more → small_if (Some n) ≡ true → past ws i k ≡ i + 1
-given_first ws i k n more e s = past_given ws i k (Some n) (given_from ws i k ∙ ap (λ l. given l 0 k) e ∙ given_word k n more s)
 
 option_least : (ws : List ℕ) (i k : ℕ) (o : Option ℕ) (more : List ℕ) → drop i ws ≡ option_words k o ++ more → small_if o ≡ true
     → i + length (option_words k o) ≤ past ws i k
@@ -40,28 +32,10 @@ actor_longest ws h part a rest r f e = grind (arith, common_steps, gets, options
 pub channel_longest : (b : Bool) (ws : List ℕ) (h : ℕ) (part : List ℕ) (c : ChannelRow) (rest : List ℕ) → record_at b ws h ≡ Ok (channel_part part) → ChannelFits c
     → drop h ws ≡ channel_words c ++ rest → length (channel_words c) ≤ length part
 channel_longest b ws h part c rest r f e =
-    let n = length c.writes in
-    let m = length c.reads in
-    let j = suc h + (n + m) in
-    let x = map (word_of 3) c.writes in
-    let y = map (word_of 3) c.reads in
-    let z = option_words 6 c.ceiling in
-    let size_x = length-map c.writes (word_of 3) in
-    let size_y = length-map c.reads (word_of 3) in
-    let u = length-append x (y ++ z) in
-    let v = length-append y z in
-    let all = ap length (sym e) ∙ length-drop h ws in
-    let both = length-append (channel_words c) rest in
-    let in_words : j ≤ length ws = omega arith in
-    let j_is : j ≡ suc h + n + m = omega arith in
-    let stop = past ws j 6 in
-    let q = past_within ws j 6 in_words in
-    let q0 = q.0 in
-    let q1 = q.1 in
-    let least = option_least ws j 6 c.ceiling rest (after_reads_lem c ws h (suc h + n) j rest e f refl j_is) f.ceiling_small in
-    let is : between h stop ws ≡ part = cc (channel_there c f b ws h rest e) in
-    let long = ap length (sym is) ∙ between_length ws h stop (omega arith) q1 in
-    omega arith
+    let k = suc h + (length c.writes + length c.reads) in
+    let least = option_least ws k 6 c.ceiling rest (after_reads_lem c ws h (suc h + length c.writes) k rest e f refl (omega arith)) f.ceiling_small in
+    let is : between h (past ws k 6) ws ≡ part = cc (channel_there c f b ws h rest e) in
+    grind (arith, common_steps, gets)
 
 -- and the longest row is read
 

@@ -1,37 +1,35 @@
 -- A fault of a word: the first that offends, or one that is missing.
 use Rattle.std.proofs.lemmas.Grind.{common_steps}
 use Rattle.std.proofs.lemmas.Option.{gets}
-use Rattle.std.proofs.Common.{◌≡◌, ℕ, zero, suc, ◌+◌, ◌<◌, ◌≤◌, Bool, true, false, not, ◌&&◌, eqb, ltb, List, [], ◌∷◌, ◌++◌, length, get_or, take, drop, Some, None, Err, Option, sym, refl, ap, ◌∙◌, subst, append_assoc, append-nil, arith}
+use Rattle.std.proofs.Common.{◌≡◌, ◌⊎◌, ⊎_elim, ℕ, zero, suc, ◌+◌, ◌<◌, ◌≤◌, Bool, true, false, not, ltb, List, [], ◌∷◌, ◌++◌, length, get_or, take, drop, Some, None, Err, Option, sym, refl, ap, ◌∙◌, subst, append_assoc, append-nil, arith}
 use Rattle.std.proofs.lemmas.List.{length-take-le, take_all, take_at, drop_at}
-use Rattle.std.proofs.lemmas.Bool.{and_from, not_from_false, lt-ltb, eq-eqb, ne_eqb, cond-true, cond-false}
+use Rattle.std.proofs.lemmas.Bool.{cases_eq, and_parts, not-true, ltb-true, eqb-true, eqb-false, cond-true, cond-false}
 use Rattle.rows.specs.Steps.{answer}
 use Rattle.std.specs.List.{slice_get}
 use Rattle.rows.specs.Table.{Table, within}
 use Rattle.words.specs.Checks.{check}
-use Rattle.words.proofs.Checks.{check_failed}
 use Rattle.words.specs.declared.fault.WordFault.{WordFault}
 use Rattle.words.specs.declared.fault.WordFault.TheVariants.{Missing, UnknownKind, Misplaced, WrongEnd}
 use Rattle.words.specs.Format.{kind_of, content_of, word_of, row_words, table_words}
 use Rattle.word_laws.specs.Offends.{Begins, Unfinished, Offends, MayEnd, Why, unknown_kind, misplaced, wrong_count, after_end, WordRefused, missing, offending}
-use Rattle.words.specs.Records.{wrong_kind, numbers_fault, writes_in, reads_in, record_at}
+use Rattle.words.specs.Records.{wrong_kind, number_fault, numbers_fault, writes_in, reads_in, actor_at, channel_at, end_at, record_at}
 use Rattle.words.specs.Loads.{has_channels}
 use Rattle.words.proofs.Bits.{word_again}
-use Rattle.word_laws.proofs.Places.{at_head}
+use Rattle.word_laws.proofs.Places.{slice_get_head}
 use Rattle.std.proofs.lemmas.Option.{slice_get_within, slice_get-get_or}
-use Rattle.words.proofs.Found.{number_by, goes_on, numbers_other}
 use Rattle.words.proofs.Headed.{headed_by_lem, wrongly_headed}
 use Rattle.words.proofs.Whole.{numbers_within}
-use Rattle.word_laws.proofs.Faulty.{NoNumber, lacks, other, Faulty, no_head, wrong_head, wrong_actor, in_actor, wrong_channel, in_channel, wrong_end, not_last}
-use Rattle.word_laws.proofs.Alike.{at_alike, numbers_alike}
+use Rattle.word_laws.proofs.Alike.{slice_get_alike, numbers_alike}
 use Rattle.word_laws.proofs.Reached.{Reached, never}
 use Rattle.word_laws.proofs.Begun.{lawful_shaped, unfinished_begins, rows_taken, h_within, may_end, rows_unfinished, actor_under_way, channel_under_way}
 use Rattle.word_laws.proofs.Reading.{Sofar}
 
-absurdly : {X : Type 0} → ◌≡◌ {A = ℕ} 0 1 → X
-absurdly z = absurd (let y : ⊥ = omega arith in y)
+answer_err : {F V : Type 0} (o : Option F) (v : V) (f : F) → answer o v ≡ Err f → o ≡ Some f
+answer_err o v f e = grind arith
 
-answer_fault : {F V : Type 0} (o : Option F) (v : V) (f : F) → o ≡ Some f → answer o v ≡ Err f
-answer_fault o v f e = ap (λ x. answer x v) e
+-- the fault of a chain of checks is that of its first check, or of those after it
+check_cases : {F : Type 0} (b : Bool) (g : F) (later : Option F) (f : F) → check b g later ≡ Some f → ((b ≡ false) × (f ≡ g)) ⊎ ((b ≡ true) × (later ≡ Some f))
+check_cases b g later f e = grind arith
 
 -- a place of the words
 
@@ -44,19 +42,31 @@ take_next xs i x e = grind (arith, common_steps, gets)
 -- the first word that is no number is the fault
 numbers_stop : (vs : List ℕ) (i j n v : ℕ) → numbers_fault vs i j ≡ None → j < n → slice_get vs (i + j) ≡ Some v → (kind_of v ≡ 3 → ⊥)
     → numbers_fault vs i n ≡ Some (wrong_kind (i + j) v)
-numbers_stop vs i j zero v e l a k = absurd (let z : ⊥ = omega arith in z)
-numbers_stop vs i zero (suc n) v e l a k =
-    let z : i + 0 ≡ i = omega arith in
-    numbers_other vs i n v (ap (slice_get vs) (sym z) ∙ a) k ∙ ap (λ p. Some (wrong_kind p v)) (sym z)
-numbers_stop vs i (suc j) (suc n) v e l a k = first (λ d. numbers_stop vs (suc i) j n v d (omega arith) (ap (slice_get vs) z ∙ a) k) (number_by vs i (slice_get vs i)) refl e
-  where
-    z : suc i + j ≡ i + suc j
-    z = omega arith
+numbers_stop vs i j zero v e l a k = grind arith
+numbers_stop vs i zero (suc n) v e l a k = grind arith
+numbers_stop vs i (suc j) (suc n) v e l a k = grind (arith, numbers_stop vs (suc i) j n v)
 
-    first : (numbers_fault vs (suc i) j ≡ None → numbers_fault vs (suc i) n ≡ Some (wrong_kind (suc i + j) v)) → (o : Option WordFault) → number_by vs i (slice_get vs i) ≡ o
-        → goes_on vs i j o ≡ None → goes_on vs i n (number_by vs i (slice_get vs i)) ≡ Some (wrong_kind (i + suc j) v)
-    first next None s d = ap (goes_on vs i n) s ∙ next d ∙ ap (λ p. Some (wrong_kind p v)) z
-    first next (Some f) s d = absurdly (cc)
+-- of n words from place i on, the first that is no number
+record Short (ws : List ℕ) (i n : ℕ) (f : WordFault) : Type 0 where
+  before : ℕ
+  fewer : before < n
+  numbers : numbers_fault ws i before ≡ None
+  stops : number_fault ws (i + before) ≡ Some f
+
+short : (ws : List ℕ) (n i : ℕ) (f : WordFault) → numbers_fault ws i n ≡ Some f → Short ws i n f
+short ws zero i f e = absurd (cc)
+short ws (suc n) i f e = by (λ d. short ws n (suc i) f d) (number_fault ws i) refl
+  where
+    by : (numbers_fault ws (suc i) n ≡ Some f → Short ws (suc i) n f) → (o : Option WordFault) → number_fault ws i ≡ o → Short ws i (suc n) f
+    by next (Some g) a =
+        let z : i ≡ i + 0 = omega arith in
+        record { before = 0; fewer = omega arith; numbers = refl; stops = subst (λ p. number_fault ws p ≡ Some f) z (grind arith) }
+    by next None a =
+        let x = next (grind arith) in
+        let z : suc i + x.before ≡ i + suc x.before = omega arith in
+        let less = x.fewer in
+        let numbers = x.numbers in
+        record { before = suc x.before; fewer = omega arith; numbers = grind arith; stops = subst (λ p. number_fault ws p ≡ Some f) z x.stops }
 
 -- an offending word
 
@@ -88,7 +98,7 @@ module _ (ws : List ℕ) (h : ℕ) (t : Table) (s : Sofar ws h t) (r : Reached w
       record {
         there = a;
         before = unfinished_begins (take h ws) (rows_unfinished ws h t s);
-        not_with_it = no_table (suc h) (omega arith) l f (λ vs alike. fault vs (sym (at_alike (suc h) ws vs alike h (omega arith)) ∙ a));
+        not_with_it = no_table (suc h) (omega arith) l f (λ vs alike. fault vs (sym (slice_get_alike (suc h) ws vs alike h (omega arith)) ∙ a));
       }
 
   -- words that run out
@@ -116,37 +126,23 @@ module _ (ws : List ℕ) (h : ℕ) (t : Table) (s : Sofar ws h t) (r : Reached w
           let long = length-take-le p ws p_within in
           let is : front ++ more ≡ vs = sym (append_assoc front (v ∷ []) g.more) ∙ g.written in
           let alike : take p ws ≡ take p vs = sym (take_at front more p long) ∙ ap (take p) is in
-          let v_there = at_head vs p v g.more (ap (drop p) (sym is) ∙ drop_at front more p long) in
+          let v_there = slice_get_head vs p v g.more (ap (drop p) (sym is) ∙ drop_at front more p long) in
           let none = sym (numbers_alike p ws vs alike (suc h) j (omega arith)) ∙ numbers in
-          let head = sym (at_alike p ws vs alike h (omega arith)) ∙ stands in
+          let head = sym (slice_get_alike p ws vs alike h (omega arith)) ∙ stands in
           never p ws b h r (omega arith) g.table g.shaped alike (wrong_kind p v)
           (fault vs head (wrong_kind p v) (numbers_stop vs (suc h) j n v none less v_there k))
 
-      number_refused : Unfinished (take (suc h + j) ws) → (f : WordFault) → NoNumber ws (suc h + j) f → WordRefused ws f
-      number_refused u f (lacks a e) =
-          let p = suc h + j in
-          let l = past_all ws p a in
-          let m = p_within in
-          subst (WordRefused ws) (sym e) (runs_out p (omega arith) u)
-      number_refused u f (other v a k e) =
-          let p = suc h + j in
-          by_kind ws p v
-          (record { there = a; before = unfinished_begins (take p ws) u; not_with_it = λ g. only_number v k (subst Begins (take_next ws p v a) g) }) u
-          (λ q g. only_number (word_of 7 p) (λ z. omega arith) g) f e
-
-  -- the fault of a record, by its head
-  actor_fault_lem : (w : ℕ) → kind_of w ≡ 1 → (vs : List ℕ) → slice_get vs h ≡ Some w → (f : WordFault)
-      → check (not b && ltb (content_of w) 256) (Misplaced h) (numbers_fault vs (suc h) (content_of w)) ≡ Some f → record_at b vs h ≡ Err f
-  actor_fault_lem w k vs a f e = headed_by_lem b vs h w a 1 k ∙ answer_fault _ _ f e
-
-  channel_fault_lem : (w : ℕ) → kind_of w ≡ 2 → (vs : List ℕ) → slice_get vs h ≡ Some w → (f : WordFault)
-      → check (ltb (content_of w) 16777216) (Misplaced h) (numbers_fault vs (suc h) (writes_in (content_of w) + reads_in (content_of w))) ≡ Some f
-      → record_at b vs h ≡ Err f
-  channel_fault_lem w k vs a f e = headed_by_lem b vs h w a 2 k ∙ answer_fault _ _ f e
-
-  end_fault : (w : ℕ) → kind_of w ≡ 7 → (vs : List ℕ) → slice_get vs h ≡ Some w → (f : WordFault)
-      → check (eqb (content_of w) h) (WrongEnd h) (check (eqb (length vs) (suc h)) (WrongEnd (suc h)) None) ≡ Some f → record_at b vs h ≡ Err f
-  end_fault w k vs a f e = headed_by_lem b vs h w a 7 k ∙ answer_fault _ _ f e
+      number_refused : Unfinished (take (suc h + j) ws) → (f : WordFault) → number_fault ws (suc h + j) ≡ Some f → WordRefused ws f
+      number_refused u f e = by (slice_get ws (suc h + j)) refl
+        where
+          by : (o : Option ℕ) → slice_get ws (suc h + j) ≡ o → WordRefused ws f
+          by None a = grind (arith, past_all, p_within, runs_out)
+          by (Some v) a =
+              let p = suc h + j in
+              let k : kind_of v ≡ 3 → ⊥ = λ z. grind arith in
+              by_kind ws p v
+              (record { there = a; before = unfinished_begins (take p ws) u; not_with_it = λ g. only_number v k (subst Begins (take_next ws p v a) g) }) u
+              (λ q g. only_number (word_of 7 p) (λ z. omega arith) g) f (grind arith)
 
   -- a head of a known kind that may not stand here
   head_misplaced : (w k : ℕ) → slice_get ws h ≡ Some w → kind_of w ≡ k → within 1 7 k ≡ true → k < 7 → ((vs : List ℕ) → slice_get vs h ≡ Some w → record_at b vs h ≡ Err (Misplaced h))
@@ -168,10 +164,10 @@ module _ (ws : List ℕ) (h : ℕ) (t : Table) (s : Sofar ws h t) (r : Reached w
       let shaped = lawful_shaped t s.good in
       let longer : (vs : List ℕ) → take (suc (suc h)) ws ≡ take (suc (suc h)) vs → record_at b vs h ≡ Err (WrongEnd (suc h)) =
       λ vs alike.
-      let n = slice_get_within vs (suc h) v (sym (at_alike (suc (suc h)) ws vs alike (suc h) (omega arith)) ∙ v_there) in
-      end_fault w k vs (sym (at_alike (suc (suc h)) ws vs alike h (omega arith)) ∙ a) (WrongEnd (suc h))
-      (cond-true (eqb (content_of w) h) _ _ (eq-eqb (content_of w) h e)
-      ∙ sym (check_failed (eqb (length vs) (suc h)) (WrongEnd (suc h)) None (ne_eqb (length vs) (suc h) (λ z. omega arith)))) in
+      let n = slice_get_within vs (suc h) v (sym (slice_get_alike (suc (suc h)) ws vs alike (suc h) (omega arith)) ∙ v_there) in
+      let d = sym (slice_get_alike (suc (suc h)) ws vs alike h (omega arith)) ∙ a in
+      let more : length vs ≡ suc h → ⊥ = λ z. omega arith in
+      grind arith in
       offending (suc h) v (WrongEnd (suc h))
       (record {
         there = v_there;
@@ -180,29 +176,46 @@ module _ (ws : List ℕ) (h : ℕ) (t : Table) (s : Sofar ws h t) (r : Reached w
       })
       (after_end t shaped here)
 
-  pub word_refused : (f : WordFault) → Faulty b ws h f → WordRefused ws f
-  word_refused f (no_head a e) = subst (WordRefused ws) (sym e) (head_missing (past_all ws h a))
-  word_refused f (wrong_head w a not1 not2 not7 e) =
-      by_kind ws h w (head_offends w a (wrong_kind h w) (λ vs d. wrongly_headed b vs h w d not1 not2 not7)) (rows_unfinished ws h t s) (λ q g. not7 q) f e
-  word_refused f (wrong_actor w a k c e) =
-      subst (WordRefused ws) (sym e)
-      (head_misplaced w 1 a k refl (omega arith) (λ vs d. actor_fault_lem w k vs d (Misplaced h) (sym (check_failed _ (Misplaced h) _ c))))
-  word_refused f (in_actor w a k early few short) =
+  -- by its head
+
+  actor_refused : (w : ℕ) → slice_get ws h ≡ Some w → kind_of w ≡ 1 → (f : WordFault) → actor_at b ws h (content_of w) ≡ Err f → WordRefused ws f
+  actor_refused w a k f e =
       let n = content_of w in
-      number_refused w a n
-      (λ vs d g e. actor_fault_lem w k vs d g (cond-true _ _ _ (and_from (not b) (ltb n 256) (not_from_false b early) (lt-ltb n 256 few)) ∙ e))
-      short.before short.fewer short.numbers (actor_under_way ws h t s w a short.before short.numbers k early few short.fewer) f short.stops
-  word_refused f (wrong_channel w a k c e) =
-      subst (WordRefused ws) (sym e)
-      (head_misplaced w 2 a k refl (omega arith) (λ vs d. channel_fault_lem w k vs d (Misplaced h) (sym (check_failed _ (Misplaced h) _ c))))
-  word_refused f (in_channel w a k low short) =
+      ⊎_elim (λ c. subst (WordRefused ws) (sym c.1) (head_misplaced w 1 a k refl (omega arith) (λ vs d. let low = c.0 in grind arith)))
+      (λ c.
+      let p = and_parts (not b) (ltb n 256) c.0 in
+      let x = short ws n (suc h) f c.1 in
+      number_refused w a n (λ vs d g e. let low = c.0 in grind arith)
+      x.before x.fewer x.numbers (actor_under_way ws h t s w a x.before x.numbers k (not-true b p.0) (ltb-true n 256 p.1) x.fewer) f x.stops)
+      (check_cases _ (Misplaced h) _ f (answer_err _ _ f e))
+
+  channel_refused : (w : ℕ) → slice_get ws h ≡ Some w → kind_of w ≡ 2 → (f : WordFault) → channel_at ws h (content_of w) ≡ Err f → WordRefused ws f
+  channel_refused w a k f e =
       let n = writes_in (content_of w) + reads_in (content_of w) in
-      number_refused w a n (λ vs d g e. channel_fault_lem w k vs d g (cond-true _ _ _ (lt-ltb (content_of w) 16777216 low) ∙ e))
-      short.before short.fewer short.numbers (channel_under_way ws h t s w a short.before short.numbers k low short.fewer) f short.stops
-  word_refused f (wrong_end w a k c e) =
-      subst (WordRefused ws) (sym e)
-      (offending h w (WrongEnd h)
-      (head_offends w a (WrongEnd h)
-      (λ vs d. end_fault w k vs d (WrongEnd h) (sym (check_failed (eqb (content_of w) h) (WrongEnd h) _ (ne_eqb (content_of w) h c)))))
-      (wrong_count (may_end ws h t s) k))
-  word_refused f (not_last w a k c more e) = subst (WordRefused ws) (sym e) (goes_on_lem w a k c more)
+      ⊎_elim (λ c. subst (WordRefused ws) (sym c.1) (head_misplaced w 2 a k refl (omega arith) (λ vs d. let low = c.0 in grind arith)))
+      (λ c.
+      let x = short ws n (suc h) f c.1 in
+      number_refused w a n (λ vs d g e. let low = c.0 in grind arith)
+      x.before x.fewer x.numbers (channel_under_way ws h t s w a x.before x.numbers k (ltb-true (content_of w) 16777216 c.0) x.fewer) f x.stops)
+      (check_cases _ (Misplaced h) _ f (answer_err _ _ f e))
+
+  end_refused : (w : ℕ) → slice_get ws h ≡ Some w → kind_of w ≡ 7 → (f : WordFault) → end_at ws h (content_of w) ≡ Err f → WordRefused ws f
+  end_refused w a k f e =
+      ⊎_elim
+      (λ c. subst (WordRefused ws) (sym c.1) (offending h w (WrongEnd h) (head_offends w a (WrongEnd h) (λ vs d. let no = c.0 in grind arith)) (wrong_count (may_end ws h t s) k)))
+      (λ c. ⊎_elim (λ d. subst (WordRefused ws) (sym d.1) (goes_on_lem w a k (eqb-true (content_of w) h c.0) (eqb-false (length ws) (suc h) d.0)))
+      (λ d. absurd (cc d.1)) (check_cases _ (WrongEnd (suc h)) _ f c.1))
+      (check_cases _ (WrongEnd h) _ f (answer_err _ _ f e))
+
+  pub word_refused : (f : WordFault) → record_at b ws h ≡ Err f → WordRefused ws f
+  word_refused f e = by (slice_get ws h) refl
+    where
+      by : (o : Option ℕ) → slice_get ws h ≡ o → WordRefused ws f
+      by None a = let missing : f ≡ Missing h = grind arith in subst (WordRefused ws) (sym missing) (head_missing (past_all ws h a))
+      by (Some w) a =
+          ⊎_elim (λ k. actor_refused w a k f (sym (headed_by_lem b ws h w a 1 k) ∙ e))
+          (λ not1. ⊎_elim (λ k. channel_refused w a k f (sym (headed_by_lem b ws h w a 2 k) ∙ e))
+          (λ not2. ⊎_elim (λ k. end_refused w a k f (sym (headed_by_lem b ws h w a 7 k) ∙ e))
+          (λ not7. by_kind ws h w (head_offends w a (wrong_kind h w) (λ vs d. wrongly_headed b vs h w d not1 not2 not7)) (rows_unfinished ws h t s) (λ q g. not7 q) f
+          (let d = sym e ∙ wrongly_headed b ws h w a not1 not2 not7 in cc))
+          (cases_eq (kind_of w) 7)) (cases_eq (kind_of w) 2)) (cases_eq (kind_of w) 1)

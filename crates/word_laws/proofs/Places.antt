@@ -1,29 +1,24 @@
 -- The words from a place on: numbers, and words that may be left out.
 use Rattle.std.proofs.lemmas.Grind.{common_steps}
 use Rattle.std.proofs.lemmas.Option.{gets}
-use Rattle.std.proofs.Common.{◌≡◌, ℕ, zero, suc, ◌+◌, true, false, cond, eqb, List, [], ◌∷◌, ◌++◌, map, length, drop, Some, None, Option, sym, refl, ap, ◌∙◌, arith, drop-drop, drop_at}
+use Rattle.std.proofs.Common.{◌≡◌, ℕ, zero, suc, ◌+◌, true, List, [], ◌∷◌, ◌++◌, map, length, get_or, drop, Some, None, Option, refl, ap, ◌∙◌, arith, drop-drop, drop_at}
 use Rattle.std.specs.List.{between}
 use Rattle.std.proofs.lemmas.List.{length-map}
-use Rattle.std.proofs.lemmas.Bool.{and_parts, and_from, ltb-true, lt-ltb, eqb-true}
+use Rattle.std.proofs.lemmas.Bool.{and_from}
 use Rattle.std.specs.List.{list_all, slice_get}
-use Rattle.words.specs.Checks.{check}
-use Rattle.words.proofs.Checks.{check_parts}
 use Rattle.words.specs.declared.fault.WordFault.{WordFault}
-use Rattle.words.specs.declared.fault.WordFault.TheVariants.{Missing}
 use Rattle.words.specs.Format.{kind_of, content_of, word_of, option_words}
 use Rattle.words.specs.Fitting.{small, small_if}
-use Rattle.words.specs.Records.{wrong_kind, number_fault, numbers_fault, given, past}
-use Rattle.words.proofs.Bits.{kind_of_word, content_of_word, word_again, content_small}
+use Rattle.words.specs.Records.{number_fault, numbers_fault, given, past}
 
 -- a list from a place on
 
 module _ {X : Type 0} where
-  pub at_first : (xs : List X) (i : ℕ) → slice_get xs i ≡ slice_get (drop i xs) 0
-  at_first xs i = grind (arith, common_steps, gets)
+  pub slice_get-drop : (xs : List X) (i : ℕ) → slice_get xs i ≡ slice_get (drop i xs) 0
+  slice_get-drop xs i = grind (arith, common_steps, gets)
 
   pub drop_past : (xs : List X) (i j : ℕ) (front more : List X) → drop i xs ≡ front ++ more → j ≡ i + length front → drop j xs ≡ more
-  drop_past xs i j front more e k =
-      ap (λ n. drop n xs) k ∙ sym (drop-drop (length front) i xs) ∙ ap (drop (length front)) e ∙ drop_at front more (length front) refl
+  drop_past xs i j front more e k = rw (k, ← drop-drop (length front) i xs, e) (drop_at front more (length front) refl)
 
   pub drop_next : (xs : List X) (i : ℕ) (x : X) (more : List X) → drop i xs ≡ x ∷ more → drop (suc i) xs ≡ more
   drop_next xs i x more e = drop_past xs i (suc i) (x ∷ []) more e (omega arith)
@@ -31,131 +26,81 @@ module _ {X : Type 0} where
   pub between_front : (xs : List X) (i j : ℕ) (front more : List X) → drop i xs ≡ front ++ more → j ≡ i + length front → between i j xs ≡ front
   between_front xs i j front more e k = grind (arith, common_steps)
 
-  pub at_head : (xs : List X) (i : ℕ) (x : X) (more : List X) → drop i xs ≡ x ∷ more → slice_get xs i ≡ Some x
-  at_head xs i x more e = at_first xs i ∙ ap (λ l. slice_get l 0) e
+  pub slice_get_head : (xs : List X) (i : ℕ) (x : X) (more : List X) → drop i xs ≡ x ∷ more → slice_get xs i ≡ Some x
+  slice_get_head xs i x more e = slice_get-drop xs i ∙ ap (λ l. slice_get l 0) e
 
   -- the element at a place begins the list from there on
-  first_there : (l : List X) (x : X) → slice_get l 0 ≡ Some x → l ≡ x ∷ drop 1 l
-  first_there l x e = grind arith
-
   pub drop_there : (xs : List X) (i : ℕ) (x : X) → slice_get xs i ≡ Some x → drop i xs ≡ x ∷ drop (suc i) xs
   drop_there xs i x e = grind (arith, common_steps, gets)
 
 -- contents that fit their bits
 
 pub small_content : (w : ℕ) → small (content_of w) ≡ true
-small_content w = lt-ltb (content_of w) 268435456 (content_small w)
+small_content w = grind arith
 
 pub kind_read : (k c : ℕ) → small c ≡ true → kind_of (word_of k c) ≡ k
-kind_read k c s = kind_of_word k c (ltb-true c 268435456 s)
+kind_read k c s = grind arith
 
 pub content_read : (k c : ℕ) → small c ≡ true → content_of (word_of k c) ≡ c
-content_read k c s = content_of_word k c (ltb-true c 268435456 s)
+content_read k c s = grind arith
 
 pub contents_read : (k : ℕ) (ns : List ℕ) → list_all small ns ≡ true → map content_of (map (word_of k) ns) ≡ ns
 contents_read k [] s = refl
-contents_read k (n ∷ ns) s =
-    let p = and_parts (small n) (list_all small ns) s in
-    let a = content_read k n p.0 in
-    let b = contents_read k ns p.1 in
-    λ i. a i ∷ b i
+contents_read k (n ∷ ns) s = grind (arith, contents_read k ns)
 
 -- a word that may be left out
 
-abbrev given_in : Option ℕ → ℕ → Option ℕ
-given_in o kind = elim o [ None ↦ None | Some w ↦ cond (eqb (kind_of w) kind) (Some (content_of w)) None ]
-
 -- it depends on the words from its place on alone
 pub given_from : (ws : List ℕ) (i k : ℕ) → given ws i k ≡ given (drop i ws) 0 k
-given_from ws i k = ap (λ o. given_in o k) (at_first ws i)
-
-pub given_word : (k n : ℕ) (more : List ℕ) → small n ≡ true → given (word_of k n ∷ more) 0 k ≡ Some n
-given_word k n more s = grind arith
-
-pub given_other : (k j n : ℕ) (more : List ℕ) → small n ≡ true → eqb j k ≡ false → given (word_of j n ∷ more) 0 k ≡ None
-given_other k j n more s d = grind arith
-
--- no word of another kind is taken for one of kind k
-pub given_skips : (k j : ℕ) (o : Option ℕ) (more : List ℕ) → small_if o ≡ true → eqb j k ≡ false → given more 0 k ≡ None → given (option_words j o ++ more) 0 k ≡ None
-given_skips k j o more s d e = grind arith
-
-first_given : (k : ℕ) (o : Option ℕ) (more : List ℕ) → small_if o ≡ true → given more 0 k ≡ None → given (option_words k o ++ more) 0 k ≡ o
-first_given k o more s e = grind arith
+given_from ws i k = grind (arith, slice_get-drop)
 
 pub given_read : (ws : List ℕ) (i k : ℕ) (o : Option ℕ) (more : List ℕ) → drop i ws ≡ option_words k o ++ more → small_if o ≡ true → given more 0 k ≡ None → given ws i k ≡ o
-given_read ws i k o more e s n = given_from ws i k ∙ ap (λ l. given l 0 k) e ∙ first_given k o more s n
-
-pub past_given : (ws : List ℕ) (i k : ℕ) (o : Option ℕ) → given ws i k ≡ o → past ws i k ≡ i + length (option_words k o)
-past_given ws i k o e = grind arith
+given_read ws i k o more e s n = grind (arith, given_from)
 
 -- what is given is there
 
-record Gives (l : List ℕ) (k : ℕ) (o : Option ℕ) : Type 0 where
-  fits : small_if o ≡ true
-  words : l ≡ option_words k o ++ drop (length (option_words k o)) l
-
-first_gives : (l : List ℕ) (k : ℕ) → Gives l k (given l 0 k)
-first_gives l k = grind arith
-
 pub given_fits : (ws : List ℕ) (i k : ℕ) → small_if (given ws i k) ≡ true
-given_fits ws i k = ap small_if (given_from ws i k) ∙ (first_gives (drop i ws) k).fits
+given_fits ws i k = grind arith
 
 pub given_there : (ws : List ℕ) (i k : ℕ) → drop i ws ≡ option_words k (given ws i k) ++ drop (past ws i k) ws
 given_there ws i k = grind (arith, common_steps, gets)
 
 -- numbers
 
-abbrev number_fault_in : ℕ → Option ℕ → Option WordFault
-number_fault_in i o = elim o [ None ↦ Some (Missing i) | Some w ↦ check (eqb (kind_of w) 3) (wrong_kind i w) None ]
-
-abbrev fault_or : Option WordFault → Option WordFault → Option WordFault
-fault_or o p = elim o [ Some f ↦ Some f | None ↦ p ]
-
-number_read : (ws : List ℕ) (i n : ℕ) → slice_get ws i ≡ Some (word_of 3 n) → small n ≡ true → number_fault ws i ≡ None
-number_read ws i n e s = grind arith
-
 pub numbers_read : (ws : List ℕ) (i : ℕ) (ns more : List ℕ) → drop i ws ≡ map (word_of 3) ns ++ more → list_all small ns ≡ true → numbers_fault ws i (length ns) ≡ None
 numbers_read ws i [] more e s = refl
-numbers_read ws i (n ∷ ns) more e s =
-    let p = and_parts (small n) (list_all small ns) s in
-    let after = map (word_of 3) ns ++ more in
-    ap (λ o. fault_or o (numbers_fault ws (suc i) (length ns))) (number_read ws i n (at_head ws i (word_of 3 n) after e) p.0)
-    ∙ numbers_read ws (suc i) ns more (drop_next ws i (word_of 3 n) after e) p.1
+numbers_read ws i (n ∷ ns) more e s = grind (arith, slice_get_head, drop_next, numbers_read ws (suc i) ns more)
 
 -- and their contents are the numbers
 pub numbers_are : (ws : List ℕ) (i j : ℕ) (ns more : List ℕ) → drop i ws ≡ map (word_of 3) ns ++ more → list_all small ns ≡ true → j ≡ i + length ns
     → map content_of (between i j ws) ≡ ns
 numbers_are ws i j ns more e s k = grind (arith, length-map, between_front, contents_read)
 
--- no fault in two lists of numbers, one after the other
+-- the fault of two lists of numbers, one after the other
+
+abbrev fault_or : Option WordFault → Option WordFault → Option WordFault
+fault_or o p = elim o [ Some f ↦ Some f | None ↦ p ]
+
+fault_or_assoc : (o p q : Option WordFault) → fault_or o (fault_or p q) ≡ fault_or (fault_or o p) q
+fault_or_assoc o p q = grind arith
 
 number_then : (o p : Option WordFault) → fault_or o p ≡ None → (o ≡ None) × (p ≡ None)
 number_then o p e = grind arith
 
-pub numbers_join : (ws : List ℕ) (i n m : ℕ) → numbers_fault ws i n ≡ None → numbers_fault ws (i + n) m ≡ None → numbers_fault ws i (n + m) ≡ None
-numbers_join ws i zero m e f =
-    let a : 0 + m ≡ m = omega arith in
-    let b : i ≡ i + 0 = omega arith in
-    ap (numbers_fault ws i) a ∙ ap (λ j. numbers_fault ws j m) b ∙ f
-numbers_join ws i (suc n) m e f =
-    let p = number_then (number_fault ws i) (numbers_fault ws (suc i) n) e in
+numbers_fault-add : (ws : List ℕ) (i n m : ℕ) → numbers_fault ws i (n + m) ≡ fault_or (numbers_fault ws i n) (numbers_fault ws (i + n) m)
+numbers_fault-add ws i zero m = grind arith
+numbers_fault-add ws i (suc n) m =
     let a : suc n + m ≡ suc (n + m) = omega arith in
     let b : suc i + n ≡ i + suc n = omega arith in
     ap (numbers_fault ws i) a
-    ∙ ap (λ o. fault_or o (numbers_fault ws (suc i) (n + m))) p.0
-    ∙ numbers_join ws (suc i) n m p.1 (ap (λ j. numbers_fault ws j m) b ∙ f)
+    ∙ ap (fault_or (number_fault ws i)) (numbers_fault-add ws (suc i) n m ∙ ap (λ j. fault_or (numbers_fault ws (suc i) n) (numbers_fault ws j m)) b)
+    ∙ fault_or_assoc (number_fault ws i) (numbers_fault ws (suc i) n) (numbers_fault ws (i + suc n) m)
+
+pub numbers_join : (ws : List ℕ) (i n m : ℕ) → numbers_fault ws i n ≡ None → numbers_fault ws (i + n) m ≡ None → numbers_fault ws i (n + m) ≡ None
+numbers_join ws i n m e f = grind (arith, numbers_fault-add)
 
 pub numbers_part : (ws : List ℕ) (i n m : ℕ) → numbers_fault ws i (n + m) ≡ None → (numbers_fault ws i n ≡ None) × (numbers_fault ws (i + n) m ≡ None)
-numbers_part ws i zero m e =
-    let a : 0 + m ≡ m = omega arith in
-    let b : i + 0 ≡ i = omega arith in
-    (refl, ap (λ j. numbers_fault ws j m) b ∙ sym (ap (numbers_fault ws i) a) ∙ e)
-numbers_part ws i (suc n) m e =
-    let a : suc n + m ≡ suc (n + m) = omega arith in
-    let b : i + suc n ≡ suc i + n = omega arith in
-    let p = number_then (number_fault ws i) (numbers_fault ws (suc i) (n + m)) (sym (ap (numbers_fault ws i) a) ∙ e) in
-    let q = numbers_part ws (suc i) n m p.1 in
-    (ap (λ o. fault_or o (numbers_fault ws (suc i) n)) p.0 ∙ q.0, ap (λ j. numbers_fault ws j m) b ∙ q.1)
+numbers_part ws i n m e = grind (arith, numbers_fault-add)
 
 -- where there is no fault, there are as many numbers
 
@@ -171,22 +116,10 @@ record Number (ws : List ℕ) (i : ℕ) : Type 0 where
   word : drop i ws ≡ word_of 3 number ∷ drop (suc i) ws
 
 number_there : (ws : List ℕ) (i : ℕ) → number_fault ws i ≡ None → Number ws i
-number_there ws i e = found (slice_get ws i) refl e
-  where
-    found : (o : Option ℕ) → slice_get ws i ≡ o → number_fault_in i o ≡ None → Number ws i
-    found None a e = let z : ◌≡◌ {A = ℕ} 0 1 = cc in absurd (let w : ⊥ = omega arith in w)
-    found (Some w) a e =
-        let p = check_parts (eqb (kind_of w) 3) (wrong_kind i w) None e in
-        record {
-          number = content_of w;
-          small_one = small_content w;
-          word = drop_there ws i w a ∙ ap (λ x. x ∷ drop (suc i) ws) (word_again w 3 (eqb-true (kind_of w) 3 p.0));
-        }
+number_there ws i e = let w = get_or ws i 0 in record { number = content_of w; small_one = small_content w; word = grind (arith, common_steps, gets) }
 
 pub numbers_there : (ws : List ℕ) (i n : ℕ) → numbers_fault ws i n ≡ None → Numbers ws i n
-numbers_there ws i zero e =
-    let b : i ≡ i + 0 = omega arith in
-    record { numbers = []; small_ones = refl; many = refl; words = ap (λ j. drop j ws) b }
+numbers_there ws i zero e = grind arith
 numbers_there ws i (suc n) e =
     let p = number_then (number_fault ws i) (numbers_fault ws (suc i) n) e in
     let x = number_there ws i p.0 in
@@ -196,7 +129,5 @@ numbers_there ws i (suc n) e =
       numbers = x.number ∷ xs.numbers;
       small_ones = and_from (small x.number) (list_all small xs.numbers) x.small_one xs.small_ones;
       many = ap suc xs.many;
-      words =
-          x.word ∙ ap (λ l. word_of 3 x.number ∷ l) xs.words
-          ∙ ap (λ j. word_of 3 x.number ∷ (map (word_of 3) xs.numbers ++ drop j ws)) b;
+      words = x.word ∙ ap (λ l. word_of 3 x.number ∷ l) (xs.words ∙ ap (λ j. map (word_of 3) xs.numbers ++ drop j ws) b);
     }

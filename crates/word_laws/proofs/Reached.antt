@@ -1,26 +1,19 @@
 -- The records of words, one after the other, whether or not the checks accept their rows.
-use Rattle.std.proofs.Common.{◌≡◌, ℕ, suc, ◌+◌, ◌<◌, ◌≤◌, Bool, true, false, eqb, List, [], ◌∷◌, ◌++◌, length, take, drop, Some, None, Ok, Err, sym, refl, ap, ◌∙◌, append_assoc, arith, length-append}
+use Rattle.std.proofs.Common.{◌≡◌, ℕ, suc, ◌+◌, ◌<◌, ◌≤◌, Bool, true, false, List, [], ◌∷◌, ◌++◌, length, take, drop, Ok, Err, sym, refl, ap, ◌∙◌, append_assoc, arith, length-append}
 use Rattle.std.specs.List.{flat_map, AllByRecursion, between}
 use Rattle.std.proofs.lemmas.List.{take_all, take_at}
-use Rattle.std.proofs.lemmas.Bool.{lt-ltb, eq-eqb, ne_eqb, cond-true}
-use Rattle.rows.specs.Steps.{answer}
+use Rattle.std.proofs.lemmas.Bool.{lt-ltb}
 use Rattle.rows.specs.Table.{ActorRow, ChannelRow, Table}
-use Rattle.words.specs.Checks.{check}
-use Rattle.words.proofs.Checks.{check_failed}
 use Rattle.words.specs.declared.fault.WordFault.{WordFault}
 use Rattle.words.specs.declared.fault.WordFault.TheVariants.{WrongEnd}
-use Rattle.words.specs.Format.{content_of, word_of, actor_words, channel_words, row_words, table_words}
+use Rattle.words.specs.Format.{word_of, actor_words, channel_words, row_words, table_words}
 use Rattle.words.specs.Fitting.{small, ActorFits, ChannelFits}
 use Rattle.word_laws.specs.Offends.{Shaped}
 use Rattle.words.specs.Records.{actor_part, channel_part, end_part, record_at}
 use Rattle.word_laws.proofs.Places.{drop_past}
 use Rattle.word_laws.proofs.RowRecords.{over_head, actors_over, channels_over, actor_read, channel_read, end_read}
-use Rattle.words.proofs.Headed.{headed_by_lem}
 use Rattle.words.proofs.Whole.{read_as}
-use Rattle.word_laws.proofs.Alike.{at_alike, actor_alike, channel_alike}
-
-absurdly : {X : Type 0} → ◌≡◌ {A = ℕ} 0 1 → X
-absurdly z = absurd (let y : ⊥ = omega arith in y)
+use Rattle.word_laws.proofs.Alike.{slice_get_alike, actor_alike, channel_alike}
 
 -- from the first word on, records come up to place h; b says whether there is a channel among them
 pub data Reached (ws : List ℕ) : Bool → ℕ → Type 0 where
@@ -36,10 +29,10 @@ pub data Ends (ws : List ℕ) : Bool → ℕ → Type 0 where
 
 module _ (ws : List ℕ) where
   from_actor : (b : Bool) (h : ℕ) (part : List ℕ) → record_at b ws h ≡ Ok (actor_part part) → Ends ws b h → Ends ws false (h + length part)
-  from_actor b h part e v4 = grind arith
+  from_actor b h part e n = grind arith
 
   from_channel : (b : Bool) (h : ℕ) (part : List ℕ) → record_at b ws h ≡ Ok (channel_part part) → Ends ws b h → Ends ws true (h + length part)
-  from_channel b h part e v4 = grind arith
+  from_channel b h part e n = grind arith
 
   -- records are read in one way
   ends_from : Ends ws false 0 → (b : Bool) (h : ℕ) → Reached ws b h → Ends ws b h
@@ -48,7 +41,7 @@ module _ (ws : List ℕ) where
   ends_from n b h (past_channel c i part r e) = from_channel c i part e (ends_from n c i r)
 
   no_fault : (b : Bool) (h : ℕ) (f : WordFault) → Ends ws b h → record_at b ws h ≡ Err f → ⊥
-  no_fault b h f v3 e = grind arith
+  no_fault b h f n e = grind arith
 
 -- words that are alike up to a place after h have the same records up to h
 reached_alike : (n : ℕ) (ws vs : List ℕ) → take n ws ≡ take n vs → (b : Bool) (h : ℕ) → Reached ws b h → h < n → Reached vs b h
@@ -81,9 +74,7 @@ module _ (ws : List ℕ) (z : ℕ) (low : small z ≡ true) where
   actors_end : (h : ℕ) (rows : List ActorRow) (cs : List ChannelRow) → AllByRecursion ActorFits rows → AllByRecursion ChannelFits cs
       → drop h ws ≡ flat_map actor_words rows ++ (flat_map channel_words cs ++ end_words z)
       → z ≡ h + length (flat_map actor_words rows) + length (flat_map channel_words cs) → Ends ws false h
-  actors_end h [] cs f g e z_is =
-      let z_more : z ≡ h + length (flat_map channel_words cs) = omega arith in
-      channels_end false h cs g e z_more
+  actors_end h [] cs f g e z_is = grind (arith, channels_end)
   actors_end h (a ∷ rows) cs f g e z_is =
       let part = actor_words a in
       let last = flat_map channel_words cs ++ end_words z in
@@ -137,10 +128,7 @@ whole_stops t u s v x more e =
     let alike : take (suc h) ws ≡ take (suc h) vs =
     take_all (suc h) ws (let z : length ws ≤ suc h = omega arith in z) ∙ sym (take_at ws (x ∷ more) (suc h) long) ∙ ap (take (suc h)) e in
     let longer = ap length (sym e) ∙ length-append ws (x ∷ more) in
-    let later = check (eqb (length vs) (suc h)) (WrongEnd (suc h)) None in
-    let fault : check (eqb (content_of w) h) (WrongEnd h) later ≡ Some (WrongEnd (suc h)) =
-    cond-true (eqb (content_of w) h) _ _ (eq-eqb (content_of w) h r.count)
-    ∙ sym (check_failed (eqb (length vs) (suc h)) (WrongEnd (suc h)) None (ne_eqb (length vs) (suc h) (λ z. omega arith))) in
-    never (suc h) ws b h l.reached (omega arith) u v alike (WrongEnd (suc h))
-    (headed_by_lem b vs h w (sym (at_alike (suc h) ws vs alike h (omega arith)) ∙ r.stands) 7 r.kind
-    ∙ ap (λ o. answer o (end_part (between h (suc h) vs))) fault)
+    let d = sym (slice_get_alike (suc h) ws vs alike h (omega arith)) ∙ r.stands in
+    let kind = r.kind in
+    let count = r.count in
+    never (suc h) ws b h l.reached (omega arith) u v alike (WrongEnd (suc h)) (grind arith)

@@ -1,15 +1,13 @@
 -- The words of a table are read as that table.
 use Rattle.std.proofs.lemmas.Grind.{common_steps}
-use Rattle.std.proofs.Common.{◌≡◌, ℕ, zero, suc, ◌+◌, ◌-◌, ◌<◌, ◌≤◌, Bool, true, false, ltb, List, [], ◌∷◌, ◌++◌, length, drop, Some, None, Ok, Err, Option, Result, sym, refl, ap, ◌∙◌, append_assoc, append-nil, arith, length-append, drop_at}
+use Rattle.std.proofs.Common.{◌≡◌, ℕ, zero, suc, ◌+◌, ◌-◌, ◌<◌, ◌≤◌, Bool, true, false, List, [], ◌∷◌, ◌++◌, length, drop, Some, None, Ok, Err, Option, Result, sym, refl, ap, ◌∙◌, append_assoc, append-nil, arith, length-append, drop_at}
 use lib.Seq.{append_snoc}
 use Rattle.std.specs.List.{flat_map, AllByRecursion}
-use Rattle.std.proofs.lemmas.Bool.{and_parts, lt-ltb}
+use Rattle.std.proofs.lemmas.Bool.{cond-true, and_parts, lt-ltb}
 use Rattle.rows.specs.declared.fault.Fault.{Fault}
-use Rattle.rows.specs.declared.fault.Fault.TheVariants.{TableFull}
 use Rattle.std.specs.List.{list_all}
 use Rattle.rows.specs.Table.{ActorRow, ChannelRow, Table, actor_fault, channel_fault, lawful, add_actor, add_channel}
 use Rattle.rows.proofs.Parts.{passes_none}
-use Rattle.words.proofs.Checks.{check_from}
 use Rattle.table.proofs.Lawful.{lawful_parts}
 use Rattle.words.specs.declared.fault.WordFault.{WordFault}
 use Rattle.words.specs.declared.fault.LoadFault.{LoadFault}
@@ -73,12 +71,12 @@ module _ (records : ℕ) (ws : List ℕ) (h : ℕ) (t : Table) where
 
 -- the rows of a lawful table fit
 
-every_after : {X : Type 0} (test : X → Bool) (xs ys : List X) → list_all test (xs ++ ys) ≡ true → list_all test ys ≡ true
-every_after test xs ys e = grind (arith, common_steps)
+list_all_after : {X : Type 0} (test : X → Bool) (xs ys : List X) → list_all test (xs ++ ys) ≡ true → list_all test ys ≡ true
+list_all_after test xs ys e = grind (arith, common_steps)
 
 all_tested : {X : Type 0} (test : X → Bool) (P : X → Type 0) → ((x : X) → test x ≡ true → P x) → (xs : List X) → list_all test xs ≡ true → AllByRecursion P xs
 all_tested test P f [] e = tt
-all_tested test P f (x ∷ xs) e = let p = and_parts (test x) (list_all test xs) e in (f x p.0, all_tested test P f xs p.1)
+all_tested test P f (x ∷ xs) e = grind (arith, all_tested test P f xs)
 
 pub actors_fit : (rows : List ActorRow) → list_all good_actor rows ≡ true → AllByRecursion ActorFits rows
 actors_fit rows e = all_tested good_actor ActorFits (λ a h. actor_fits a (passes_none (actor_fault a) h)) rows e
@@ -95,15 +93,11 @@ module _ (ws rest : List ℕ) (over : Over rest) (records : ℕ) where
   channels_pass : (all h : ℕ) (rows : List ActorRow) (xs ys : List ChannelRow) → lawful (rows_of rows (xs ++ ys)) ≡ true
       → drop h ws ≡ flat_map channel_words ys ++ rest → all ≡ length ys + records
       → rows_from all ws h (rows_of rows xs) ≡ rows_from records ws (h + length (flat_map channel_words ys)) (rows_of rows (xs ++ ys))
-  channels_pass all h rows xs [] l e count =
-      let n : all ≡ records = omega arith in
-      let here : h ≡ h + 0 = omega arith in
-      let same = sym (append-nil xs) in
-      λ i. rows_from (n i) ws (here i) (rows_of rows (same i))
-  channels_pass zero h rows xs (c ∷ cs) l e count = absurd (let w : ⊥ = omega arith in w)
+  channels_pass all h rows xs [] l e count = grind (arith, common_steps)
+  channels_pass zero h rows xs (c ∷ cs) l e count = grind arith
   channels_pass (suc all) h rows xs (c ∷ cs) l e count =
       let law = lawful_parts (rows_of rows (xs ++ c ∷ cs)) l in
-      let good = and_parts (good_channel rows c) (list_all (good_channel rows) cs) (every_after (good_channel rows) xs (c ∷ cs) law.good_channels) in
+      let good = and_parts (good_channel rows c) (list_all (good_channel rows) cs) (list_all_after (good_channel rows) xs (c ∷ cs) law.good_channels) in
       let none = passes_none (channel_fault rows c) good.0 in
       let many = law.few_channels in
       let size = length-append xs (c ∷ cs) in
@@ -117,7 +111,7 @@ module _ (ws rest : List ℕ) (over : Over rest) (records : ℕ) where
       let same = append_snoc xs c cs in
       channel_step all ws h (rows_of rows xs) c more from (channel_fits rows c law.few_actors law.good_actors none)
       (channels_over cs rest (channels_fit rows law.few_actors law.good_actors cs good.1) over)
-      (check_from (ltb (length xs) 128) TableFull (channel_fault rows c) (lt-ltb (length xs) 128 room) none)
+      (cond-true _ _ _ (lt-ltb (length xs) 128 room) ∙ none)
       ∙ channels_pass all (h + length part) rows (xs ++ c ∷ []) cs (ap (λ l. lawful (rows_of rows l)) same ∙ l)
       (drop_past ws h (h + length part) part more from refl) left
       ∙ (λ i. rows_from records ws (after i) (rows_of rows (same i)))
@@ -130,11 +124,11 @@ module _ (ws rest : List ℕ) (over : Over rest) (records : ℕ) where
       let left : all ≡ length cs + records = omega arith in
       let here : h + length (flat_map channel_words cs) ≡ h + 0 + length (flat_map channel_words cs) = omega arith in
       channels_pass all h xs [] cs (ap (λ r. lawful (rows_of r cs)) (sym same) ∙ l) e left ∙ (λ i. rows_from records ws (here i) (rows_of (sym same i) cs))
-  actors_pass zero h xs (a ∷ ys) cs l e count = absurd (let w : ⊥ = omega arith in w)
+  actors_pass zero h xs (a ∷ ys) cs l e count = grind arith
   actors_pass (suc all) h xs (a ∷ ys) cs l e count =
       let rows = xs ++ a ∷ ys in
       let law = lawful_parts (rows_of rows cs) l in
-      let good = and_parts (good_actor a) (list_all good_actor ys) (every_after good_actor xs (a ∷ ys) law.good_actors) in
+      let good = and_parts (good_actor a) (list_all good_actor ys) (list_all_after good_actor xs (a ∷ ys) law.good_actors) in
       let none = passes_none (actor_fault a) good.0 in
       let many = law.few_actors in
       let size = length-append xs (a ∷ ys) in
@@ -150,7 +144,7 @@ module _ (ws rest : List ℕ) (over : Over rest) (records : ℕ) where
       actor_step all ws h (rows_of xs []) a more from (actor_fits a none)
       (actors_over ys last (actors_fit ys good.1) (channels_over cs rest (channels_fit rows law.few_actors law.good_actors cs law.good_channels) over))
       refl
-      (check_from (ltb (length xs) 64) TableFull (actor_fault a) (lt-ltb (length xs) 64 room) none)
+      (cond-true _ _ _ (lt-ltb (length xs) 64 room) ∙ none)
       ∙ actors_pass all (h + length part) (xs ++ a ∷ []) ys cs (ap (λ r. lawful (rows_of r cs)) same ∙ l)
       (drop_past ws h (h + length part) part more from refl) left
       ∙ (λ i. rows_from records ws (after i) (rows_of (same i) cs))

@@ -1,24 +1,23 @@
 -- What a refusal of the words means.
-use Rattle.std.proofs.Common.{◌≡◌, ℕ, zero, suc, ◌+◌, ◌<◌, ◌≤◌, true, false, not, eqb, List, [], ◌∷◌, ◌++◌, length, drop, Some, None, Ok, Err, Option, Result, sym, refl, ap, ◌∙◌, subst, arith}
+use Rattle.std.proofs.Common.{◌≡◌, ℕ, zero, suc, ◌+◌, ◌<◌, ◌≤◌, true, false, not, eqb, List, [], ◌++◌, length, drop, Some, None, Ok, Err, Option, Result, sym, refl, ap, ◌∙◌, subst, arith}
 use Rattle.std.proofs.lemmas.List.{drop_at, nil_from_length}
 use Rattle.std.proofs.lemmas.Grind.{common_steps}
 use Rattle.std.proofs.lemmas.Bool.{not-false, lt-ltb, eqb-true}
 use Rattle.rows.specs.declared.fault.Fault.{Fault}
 use Rattle.rows.specs.Table.{ActorRow, ChannelRow, Table, empty_table, lawful, add_actor, add_channel}
-use Rattle.table.proofs.Lawful.{lawful_with_actor, lawful_with_channel}
+use Rattle.table.proofs.Lawful.{lawful_with_actor}
 use Rattle.words.specs.declared.fault.WordFault.{WordFault}
 use Rattle.words.specs.declared.fault.WordFault.TheVariants.{Missing}
 use Rattle.words.specs.declared.fault.LoadFault.{LoadFault}
 use Rattle.words.specs.declared.fault.LoadFault.TheVariants.{Word, Row}
-use Rattle.words.specs.Format.{word_of, actor_words, channel_words, row_words, Describes}
+use Rattle.words.specs.Format.{actor_words, channel_words, row_words, Describes}
 use Rattle.words.specs.Fitting.{ActorFits, ChannelFits}
 use Rattle.word_laws.specs.Offends.{First, WordRefused, RowRefused, actor_refused, channel_refused, RefusedBy, by_row, by_word}
 use Rattle.words.specs.Records.{Part, actor_part, channel_part, end_part, record_at, actor_of, channel_of}
 use Rattle.words.specs.Loads.{has_channels, rows_from, table_read}
 use Rattle.word_laws.proofs.RowRecords.{Over, over_head, ends, ends_fit, actor_again, channel_again}
 use Rattle.word_laws.proofs.RowsFound.{FoundActor, FoundChannel, record_found}
-use Rattle.word_laws.proofs.Reading.{add_then, record_then, words_with_actor, words_with_channel, Sofar, sofar_more, rows_pass}
-use Rattle.word_laws.proofs.Faulty.{faulty}
+use Rattle.word_laws.proofs.Reading.{add_then, record_then, words_with_actor, Sofar, sofar_more, rows_pass}
 use Rattle.word_laws.proofs.Reached.{Reached, start, past_actor, past_channel}
 use Rattle.word_laws.proofs.Longest.{actor_longest, channel_longest, first_actor, first_channel}
 use Rattle.word_laws.proofs.Offending.{head_missing, word_refused}
@@ -60,11 +59,8 @@ module _ (ws : List ℕ) (t : Table) (f : Fault) (rest : List ℕ) (l : lawful t
       ∙ ap (add_then p.later ws h part ((add_channel c).made t)) bad
 
 pub row_answer : (ws : List ℕ) (h : ℕ) (f : Fault) → RowRefused ws h f → table_read ws ≡ Err (Row h f)
-row_answer ws h f (actor_refused t a _ rest l none e first bad) = actor_answer ws t f rest l e a none first bad
+row_answer ws h f (actor_refused t a _ rest l none e first bad) = grind (arith, actor_answer)
 row_answer ws h f (channel_refused t c _ rest l e first bad) = channel_answer ws t f rest l e c first bad
-
-some_channels : (t : Table) (c : ChannelRow) → has_channels ((add_channel c).made t) ≡ true
-some_channels t c = grind (arith, common_steps)
 
 -- what an answer says of the words
 
@@ -122,25 +118,15 @@ module _ (ws : List ℕ) where
           longest = λ c rest fits there. subst (λ l. length (channel_words c) ≤ length l) g.words (channel_longest (has_channels t) ws h part c rest d fits there);
         } in
         of_row x (channel_refused t g.row x (drop h ws) s.good s.words first (ap (λ y. (add_channel y).fault t) (sym same) ∙ a))
-    channel_then part d g None a e =
-        let same : channel_words (channel_of part) ≡ part = ap channel_words (ap channel_of g.words ∙ channel_again g.row g.fits) ∙ sym g.words in
-        let more = drop (h + length part) ws in
-        let u = (add_channel (channel_of part)).made t in
-        let some : length part ≡ length (channel_words g.row) = ap length g.words in
-        next (h + length part) u
-        (sofar_more ws h t u part s (lawful_with_channel t s.good (channel_of part) a)
-        (words_with_channel t (channel_of part) ∙ ap (λ l. row_words t ++ l) same) (g.there ∙ ap (λ l. l ++ more) (sym g.words)))
-        (subst (λ c. Reached ws c (h + length part)) (sym (some_channels t (channel_of part))) (past_channel (has_channels t) h part r d)) (omega arith) e
+    channel_then part d g None a e = grind (arith, common_steps, channel_again, past_channel)
 
     record_then_lem : (x : Result Part WordFault) → record_at (has_channels t) ws h ≡ x → table_read ws ≡ record_then records ws h t x → Says ws (record_then records ws h t x)
-    record_then_lem (Err g) a e = of_word g e (word_refused ws h t s r g (faulty (has_channels t) ws h g a))
+    record_then_lem (Err g) a e = of_word g e (word_refused ws h t s r g a)
     record_then_lem (Ok (actor_part part)) a e =
         actor_then part a (record_found (has_channels t) ws h (actor_part part) a) ((add_actor (actor_of part)).fault t) refl e
     record_then_lem (Ok (channel_part part)) a e =
         channel_then part a (record_found (has_channels t) ws h (channel_part part) a) ((add_channel (channel_of part)).fault t) refl e
-    record_then_lem (Ok (end_part part)) a e =
-        let f = record_found (has_channels t) ws h (end_part part) a in
-        record { accepted = s.good; written = s.words ∙ ap (λ l. row_words t ++ l) f ∙ ap (λ n. row_words t ++ word_of 7 n ∷ []) s.here }
+    record_then_lem (Ok (end_part part)) a e = grind (arith, record_found (has_channels t) ws h (end_part part) a)
 
   means : (records : ℕ) → Means records
   means zero h t s r enough e = of_word (Missing h) e (head_missing ws h t s r (omega arith))

@@ -1,22 +1,17 @@
 -- The record of a row is read as the words of that row, and these as the row.
 use Rattle.std.proofs.lemmas.Grind.{common_steps}
 use Rattle.std.proofs.lemmas.Option.{gets}
-use Rattle.std.proofs.Common.{◌≡◌, ℕ, suc, ◌+◌, ◌<◌, Bool, true, false, cond, eqb, ltb, List, [], ◌∷◌, ◌++◌, map, length, drop, Some, None, Ok, Err, Option, Result, sym, refl, ap, ◌∙◌, append_assoc, append-nil, arith}
+use Rattle.std.proofs.Common.{◌≡◌, ℕ, suc, ◌+◌, ◌<◌, Bool, true, false, eqb, List, [], ◌∷◌, ◌++◌, map, length, drop, None, Ok, sym, refl, ap, ◌∙◌, append_assoc, append-nil, arith}
 use Rattle.std.specs.List.{between, flat_map, AllByRecursion}
 use Rattle.std.proofs.lemmas.List.{length-map}
 use Rattle.std.proofs.lemmas.Bool.{lt-ltb}
-use Rattle.rows.specs.Steps.{answer}
 use Rattle.rows.specs.declared.row.Placement.{Placement}
 use Rattle.rows.specs.Table.{ActorRow, ChannelRow, actor_with, channel_with, pin_of, placed}
-use Rattle.words.specs.Checks.{check}
-use Rattle.words.proofs.Checks.{check_from}
-use Rattle.words.specs.declared.fault.WordFault.{WordFault}
-use Rattle.words.specs.declared.fault.WordFault.TheVariants.{Missing, Misplaced}
-use Rattle.words.specs.Format.{kind_of, content_of, word_of, option_words, actor_words, ends_content, channel_words}
+use Rattle.words.specs.Format.{content_of, word_of, option_words, actor_words, ends_content, channel_words}
 use Rattle.words.specs.Fitting.{small, ActorFits, ChannelFits}
-use Rattle.words.specs.Records.{Part, actor_part, channel_part, end_part, wrong_kind, numbers_fault, given, past, writer_in, reader_in, writes_in, reads_in, actor_at, channel_at, end_at, record_at, actor_of, channel_of}
+use Rattle.words.specs.Records.{actor_part, channel_part, end_part, numbers_fault, given, past, writer_in, reader_in, writes_in, reads_in, record_at, actor_of, channel_of}
 use Rattle.words.proofs.Bits.{writer_field, reader_field, writes_field, reads_field, ends_small}
-use Rattle.word_laws.proofs.Places.{drop_past, drop_next, between_front, kind_read, content_read, given_read, numbers_read, numbers_are, numbers_join}
+use Rattle.word_laws.proofs.Places.{slice_get_head, drop_past, drop_next, between_front, kind_read, content_read, given_read, numbers_read, numbers_are, numbers_join}
 
 -- words that do not go on the record before them
 
@@ -31,29 +26,10 @@ over_none = record { no_tick = refl; no_pin = refl; no_ceiling = refl }
 pub over_head : (k n : ℕ) (more : List ℕ) → small n ≡ true → eqb k 4 ≡ false → eqb k 5 ≡ false → eqb k 6 ≡ false → Over (word_of k n ∷ more)
 over_head k n more s a b c = grind arith
 
--- the record at a place, by the kind and the content of its head
-
-abbrev pub headed : Bool → List ℕ → ℕ → ℕ → ℕ → ℕ → Result Part WordFault
-headed b ws h w k c =
-    cond (eqb k 1) (actor_at b ws h c) (cond (eqb k 2) (channel_at ws h c) (cond (eqb k 7) (end_at ws h c) (Err (wrong_kind h w))))
-
-abbrev pub record_in : Bool → List ℕ → ℕ → Option ℕ → Result Part WordFault
-record_in b ws h o = elim o [ None ↦ Err (Missing h) | Some w ↦ headed b ws h w (kind_of w) (content_of w) ]
-
-pub head_read : (b : Bool) (ws : List ℕ) (h k c : ℕ) (more : List ℕ) → drop h ws ≡ word_of k c ∷ more → small c ≡ true
-    → record_at b ws h ≡ headed b ws h (word_of k c) k c
-head_read b ws h k c more e s = grind (arith, common_steps, gets, kind_read, content_read)
-
-accepted_part : (o : Option WordFault) (make : List ℕ → Part) (p q : List ℕ) → o ≡ None → p ≡ q → answer o (make p) ≡ Ok (make q)
-accepted_part o make p q e f = λ i. answer (e i) (make (f i))
-
 placed_again : (p : Placement) → placed (pin_of p) ≡ p
-placed_again v0 = grind arith
+placed_again p = grind arith
 
 -- an actor
-
-abbrev actor_head : ActorRow → ℕ
-actor_head a = word_of 1 (length a.times)
 
 abbrev tick_words : ActorRow → List ℕ
 tick_words a = option_words 4 a.not_before
@@ -104,12 +80,10 @@ pub actor_there : (a : ActorRow) (ws : List ℕ) (h : ℕ) (more : List ℕ) →
     → record_at false ws h ≡ Ok (actor_part (between h (past ws (past ws (suc h + length a.times) 4) 5) ws))
 actor_there a ws h more e f =
     let n = length a.times in
-    let few : n < 256 = f.few in
-    let low : n < 268435456 = omega arith in
-    let part = between h (past ws (past ws (suc h + n) 4) 5) ws in
-    head_read false ws h 1 n ((map (word_of 3) a.times ++ (tick_words a ++ pin_words a)) ++ more) e (lt-ltb n 268435456 low)
-    ∙ accepted_part (check (ltb n 256) (Misplaced h) (numbers_fault ws (suc h) n)) actor_part part part
-    (check_from (ltb n 256) (Misplaced h) (numbers_fault ws (suc h) n) (lt-ltb n 256 few) (actor_numbers a ws h (suc h + n) more e f refl)) refl
+    let stands = slice_get_head ws h (word_of 1 n) _ e in
+    let numbers = actor_numbers a ws h (suc h + n) more e f refl in
+    let few = f.few in
+    grind (arith, kind_read 1 n, content_read 1 n)
 
 pub actor_read : (a : ActorRow) (ws : List ℕ) (h : ℕ) (more : List ℕ) → drop h ws ≡ actor_words a ++ more → ActorFits a → Over more
     → record_at false ws h ≡ Ok (actor_part (actor_words a))
@@ -168,10 +142,6 @@ module _ (c : ChannelRow) (ws : List ℕ) (h j k : ℕ) (more : List ℕ) (e : d
     channel_part_lem : between h (past ws k 6) ws ≡ channel_words c
     channel_part_lem = between_front ws h (past ws k 6) (channel_words c) more e (channel_past c ws h j k j_is k_is ceiling_read)
 
-abbrev channel_in : List ℕ → ℕ → ℕ → ℕ → Result Part WordFault
-channel_in ws h content n =
-    answer (check (ltb content 16777216) (Misplaced h) (numbers_fault ws (suc h) n)) (channel_part (between h (past ws (suc h + n) 6) ws))
-
 module _ (c : ChannelRow) (f : ChannelFits c) where
   ends_low : ends c < 16777216
   ends_low = ends_small c.writer c.reader (length c.writes) (length c.reads) f.writer_small f.reader_small f.few_writes f.few_reads
@@ -196,16 +166,14 @@ module _ (c : ChannelRow) (f : ChannelFits c) where
   channel_there b ws h more e =
       let n = length c.writes in
       let m = length c.reads in
+      let stands = slice_get_head ws h (word_of 2 (ends c)) _ e in
+      let kind = kind_read 2 (ends c) ends_fit in
+      let content = content_read 2 (ends c) ends_fit in
+      let low = ends_low in
       let u = writes_in_lem in
       let v = reads_in_lem in
-      let k_is : suc h + (n + m) ≡ suc h + n + m = omega arith in
-      let part = between h (past ws (suc h + (n + m)) 6) ws in
-      head_read b ws h 2 (ends c) ((map (word_of 3) c.writes ++ (map (word_of 3) c.reads ++ ceiling_words c)) ++ more) e ends_fit
-      ∙ (λ i. channel_in ws h (ends c) (u i + v i))
-      ∙ accepted_part (check (ltb (ends c) 16777216) (Misplaced h) (numbers_fault ws (suc h) (n + m))) channel_part part part
-      (check_from (ltb (ends c) 16777216) (Misplaced h) (numbers_fault ws (suc h) (n + m)) (lt-ltb (ends c) 16777216 ends_low)
-      (channel_numbers c ws h (suc h + n) (suc h + (n + m)) more e f refl k_is))
-      refl
+      let numbers = channel_numbers c ws h (suc h + n) (suc h + (n + m)) more e f refl (omega arith) in
+      grind arith
 
   pub channel_read : (b : Bool) (ws : List ℕ) (h : ℕ) (more : List ℕ) → drop h ws ≡ channel_words c ++ more → Over more
       → record_at b ws h ≡ Ok (channel_part (channel_words c))
@@ -229,11 +197,7 @@ module _ (c : ChannelRow) (f : ChannelFits c) where
 
 pub actors_over : (rows : List ActorRow) (more : List ℕ) → AllByRecursion ActorFits rows → Over more → Over (flat_map actor_words rows ++ more)
 actors_over [] more f o = o
-actors_over (a ∷ rows) more f o =
-    let few = f.0.few in
-    let n = length a.times in
-    let low : n < 268435456 = omega arith in
-    over_head 1 n _ (lt-ltb n 268435456 low) refl refl refl
+actors_over (a ∷ rows) more f o = grind arith
 
 pub channels_over : (cs : List ChannelRow) (more : List ℕ) → AllByRecursion ChannelFits cs → Over more → Over (flat_map channel_words cs ++ more)
 channels_over [] more f o = o

@@ -1,4 +1,5 @@
 -- The words of a whole table.
+use Rattle.std.proofs.lemmas.Grind.{common_steps}
 use Rattle.std.proofs.Common.{◌≡◌, ℕ, zero, suc, ◌+◌, ◌<◌, Bool, true, List, [], ◌∷◌, map, length, get_or, sym, ap, ◌∙◌, arith, length-append}
 use lib.ListN.{length-map}
 use Rattle.std.specs.List.{flat_map}
@@ -17,10 +18,8 @@ use Rattle.words.specs.Format.{word_of, actor_words, channel_words, row_words, t
 use Rattle.words.proofs.Fits.{actor_fits, channel_fits, rows_few}
 
 -- an element of a list that passes a test
-every_at : {X : Type 0} (test : X → Bool) (xs : List X) (i : ℕ) (d : X) → list_all test xs ≡ true → i < length xs → test (get_or xs i d) ≡ true
-every_at test [] i d e h = absurd (let z : ⊥ = omega arith in z)
-every_at test (x ∷ xs) zero d e h = (and_parts (test x) (list_all test xs) e).0
-every_at test (x ∷ xs) (suc i) d e h = every_at test xs i d (and_parts (test x) (list_all test xs) e).1 (omega arith)
+list_all_get_or : {X : Type 0} (test : X → Bool) (xs : List X) (i : ℕ) (d : X) → list_all test xs ≡ true → i < length xs → test (get_or xs i d) ≡ true
+list_all_get_or test xs i d e h = grind (arith, common_steps)
 
 -- a row at a place passes the test that all rows pass
 row_passes : {X Y : Type 0} (row : X → Y) (test : Y → Bool) (xs : List X) (ys : List Y) → map row xs ≡ ys → list_all test ys ≡ true → (i : ℕ) (d : X) → i < length xs
@@ -28,9 +27,7 @@ row_passes : {X Y : Type 0} (row : X → Y) (test : Y → Bool) (xs : List X) (y
 row_passes row test xs ys e all i d h =
     let n = length-map xs row in
     let m = ap length e in
-    let k : i < length ys = omega arith in
-    let is : get_or ys i (row d) ≡ row (get_or xs i d) = ap (λ rows. get_or rows i (row d)) (sym e) ∙ get_or-map row xs i d (row d) h in
-    ap test (sym is) ∙ every_at test ys i (row d) all k
+    ap test (sym (get_or-map row xs i d (row d) h) ∙ ap (λ rows. get_or rows i (row d)) e) ∙ list_all_get_or test ys i (row d) all (omega arith)
 
 -- the words of the program's rows are those of the rows that they stand for
 
@@ -41,9 +38,7 @@ pub channels_encoded : (t : Table) (xs : List Channel) → map channel_row xs �
 channels_encoded t xs e = sym (flat_map-map channel_words channel_row xs) ∙ ap (flat_map channel_words) e
 
 pub whole_size : (t : Table) → length (table_words t) ≡ length (flat_map actor_words t.actors) + length (flat_map channel_words t.channels) + 1
-whole_size t =
-    length-append (row_words t) (word_of 7 (length (row_words t)) ∷ [])
-    ∙ (let a = length-append (flat_map actor_words t.actors) (flat_map channel_words t.channels) in omega arith)
+whole_size t = grind (arith, common_steps)
 
 module _ (t : Table) (l : lawful t ≡ true) where
   pub sizes_few : length (flat_map actor_words t.actors) + length (flat_map channel_words t.channels) < 268435456
@@ -65,7 +60,4 @@ module _ (t : Table) (l : lawful t ≡ true) where
     pub few : length (flat_map (λ a. actor_words (actor_row a)) actors) + length (flat_map (λ c. channel_words (channel_row c)) channels) < 268435456
 
   pub sizes : (actors : List Actor) (channels : List Channel) → map actor_row actors ≡ t.actors → map channel_row channels ≡ t.channels → Sizes actors channels
-  sizes actors channels e f =
-      let a = ap length (actors_encoded t actors e) in
-      let b = ap length (channels_encoded t channels f) in
-      let w = whole_size t in let s = sizes_few in record { whole = omega arith; few = omega arith }
+  sizes actors channels e f = grind (arith, actors_encoded, channels_encoded, whole_size, sizes_few)

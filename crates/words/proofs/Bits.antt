@@ -1,21 +1,11 @@
 -- The kind and the content of a word, and the fields of a channel's head.
-use Rattle.std.proofs.Common.{◌≡◌, ℕ, ◌<◌, sym, ap, ◌∙◌, arith}
-use Rattle.std.proofs.lemmas.Nat.{div-mul-add, mod-mul-add, div-add-mod', mod_below}
+use Rattle.std.proofs.Common.{◌≡◌, ℕ, ◌<◌, arith}
 use Rattle.words.specs.Format.{kind_of, content_of, word_of, ends_content}
 use Rattle.words.specs.Records.{writer_in, reader_in, writes_in, reads_in}
 
-pub kind_of_word : (k c : ℕ) → c < 268435456 → kind_of (word_of k c) ≡ k
-kind_of_word k c h = div-mul-add k 268435456 c h
-
-pub content_of_word : (k c : ℕ) → c < 268435456 → content_of (word_of k c) ≡ c
-content_of_word k c h = mod-mul-add k 268435456 c h
-
 -- a word of kind k is made of it and of its content
 pub word_again : (w k : ℕ) → kind_of w ≡ k → w ≡ word_of k (content_of w)
-word_again w k e = sym (div-add-mod' w 268435456) ∙ ap (λ j. word_of j (content_of w)) e
-
-pub content_small : (w : ℕ) → content_of w < 268435456
-content_small w = mod_below w 268435456 (omega arith)
+word_again w k e = omega arith
 
 -- the fields of a channel's head
 

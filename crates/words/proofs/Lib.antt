@@ -1,6 +1,4 @@
-pub mod Checks
 pub mod Bits
-pub mod Numbered
 pub mod Fits
 pub mod Found
 pub mod Headed

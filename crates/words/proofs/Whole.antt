@@ -1,16 +1,12 @@
 -- What a record that is read whole has: its head, its numbers, and an end within the words.
 use Rattle.std.proofs.lemmas.Grind.{common_steps}
 use Rattle.std.proofs.lemmas.Option.{gets}
-use Rattle.std.proofs.Common.{◌≡◌, ℕ, zero, suc, ◌+◌, ◌-◌, ◌<◌, ◌≤◌, Bool, false, List, length, Some, None, Ok, Option, arith}
+use Rattle.std.proofs.Common.{◌≡◌, ℕ, zero, suc, ◌+◌, ◌<◌, ◌≤◌, Bool, false, List, length, Some, None, Ok, arith}
 use Rattle.std.specs.List.{between}
 use Rattle.std.proofs.lemmas.Bool.{ltb-true, eqb-true}
-use Rattle.rows.specs.Steps.{answer}
 use Rattle.std.specs.List.{slice_get}
 use Rattle.words.specs.Format.{kind_of, content_of}
 use Rattle.words.specs.Records.{Part, actor_part, channel_part, end_part, past, numbers_fault, record_at, writes_in, reads_in, head_content}
-
-pub answer_ok : {F V : Type 0} (o : Option F) (v x : V) → answer o v ≡ Ok x → (o ≡ None) × (v ≡ x)
-answer_ok o v x e = grind arith
 
 -- numbers that are all there
 
@@ -21,10 +17,6 @@ module _ (ws : List ℕ) where
 
   pub past_within : (i kind : ℕ) → i ≤ length ws → (i ≤ past ws i kind) × (past ws i kind ≤ length ws)
   past_within i kind h = grind (arith, gets)
-
-  -- a part of the words
-  pub between_length : (h e : ℕ) → h ≤ e → e ≤ length ws → length (between h e ws) ≡ e - h
-  between_length h e l m = grind (arith, common_steps)
 
 -- what is known of a record once it is read
 
@@ -72,9 +64,6 @@ pub record Within (ws : List ℕ) (h : ℕ) (part : List ℕ) (content numbers :
   pub ends : h + length part ≤ length ws
 
 module _ (ws : List ℕ) (h : ℕ) (part : List ℕ) where
-  within : (w n e : ℕ) → slice_get ws h ≡ Some w → suc h + n ≤ e → e ≤ length ws → between h e ws ≡ part → Within ws h part (content_of w) n
-  within w n e s l m is = grind (arith, common_steps, gets)
-
   pub actor_within : (after : Bool) (r : ActorRead after ws h part) → Within ws h part (content_of r.head) (content_of r.head)
   actor_within after r = grind (arith, common_steps, gets, numbers_within)
 

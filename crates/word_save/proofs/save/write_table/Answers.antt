@@ -7,8 +7,8 @@ use Rattle.word_save.proofs.save.write_table.Goals as goal
 -- the parts of a table, the last of one word
 joined : (a b xs ys end : List ℕ) (w : ℕ) → a ≡ xs → b ≡ ys → length end ≡ 1 → w ≡ word_of 7 (length a + length b)
     → a ++ (b ++ slice_set end 0 w) ≡ (xs ++ ys) ++ word_of 7 (length (xs ++ ys)) ∷ []
-joined a b xs ys [] w e f one is = absurd (let z : ⊥ = omega arith in z)
-joined a b xs ys (x ∷ (y ∷ more)) w e f one is = absurd (let z : ⊥ = omega arith in z)
+joined a b xs ys [] w e f one is = absurd (omega arith)
+joined a b xs ys (x ∷ (y ∷ more)) w e f one is = absurd (omega arith)
 joined a b xs ys (x ∷ []) w e f one is =
     ap (λ n. a ++ (b ++ n ∷ [])) (is ∙ ap (word_of 7) (sym (length-append a b))) ∙ sym (append_assoc a b (word_of 7 (length (a ++ b)) ∷ []))
     ∙ ap (λ l. (l ++ b) ++ word_of 7 (length (l ++ b)) ∷ []) e ∙ ap (λ l. (xs ++ l) ++ word_of 7 (length (xs ++ l)) ∷ []) f
