@@ -1,7 +1,7 @@
 // The words that a line is made of.
 ghost use Rattle.std.specs.Prelude.{◌≡◌, Some};
 ghost use Rattle.tokens.specs.Messages.{name_text};
-ghost use Rattle.tokens.specs.Tokens.{token_of, call_word, part_word, numeral, with_digit, same, as_number};
+ghost use Rattle.tokens.specs.Tokens.{token_of, call_word, part_word, numeral, same, as_number};
 
 use std::fmt;
 
@@ -119,22 +119,13 @@ fn part_word_of(word: &[u8]) -> Token
     }
 }
 
-// The number that a word of digits stands for, if it is below 2^32.
+// The number that a word of digits stands for, if it is below 2^32. The library's parse takes a sign too.
 fn number_of(word: &[u8]) -> Option<u32>
     ensures { result ≡ numeral word.now }
 {
-    if word.is_empty() {
+    if !word.iter().all(|b| b.is_ascii_digit()) {
         return None;
     }
-    word.iter().try_fold(0, |n, b| with_digit(n, *b))
-}
-
-// The number with one more digit, if that is a digit and the number is below 2^32.
-fn with_digit(n: u32, b: u8) -> Option<u32>
-    ensures { result ≡ with_digit n b }
-{
-    if !b.is_ascii_digit() {
-        return None;
-    }
-    n.checked_mul(10)?.checked_add(u32::from(b - b'0'))
+    let text = str::from_utf8(word).ok()?;
+    u32::from_str_radix(text, 10).ok()
 }
