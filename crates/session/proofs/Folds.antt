@@ -1,11 +1,13 @@
 -- A list of calls, one call after the other.
-use Rattle.std.proofs.Common.{◌≡◌, ℕ, ◌+◌, ◌<◌, ◌≤◌, Bool, true, false, cond, List, [], ◌∷◌, ◌++◌, map, length, get_or, drop, sym, ap, ◌∙◌, append_assoc, append-nil}
-use Rattle.std.proofs.lemmas.List.{at_drop_more, at_drop_all, map_push}
+use Rattle.std.proofs.lemmas.Grind.{common_steps}
+use Rattle.std.proofs.Common.{arith}
+use Rattle.std.proofs.Common.{◌≡◌, ℕ, ◌+◌, ◌<◌, ◌≤◌, Bool, true, cond, List, [], ◌∷◌, ◌++◌, map, length, get_or, drop, sym, ap, ◌∙◌, append-nil}
+use Rattle.std.proofs.lemmas.List.{at_drop_all, map_push}
 use Rattle.rows.specs.Table.{Table, lawful}
 use Rattle.draft.specs.Book.{Book}
 use Rattle.session.specs.declared.calls.Answer.{Answer}
 use Rattle.session.specs.declared.calls.Call.{Call}
-use Rattle.session.specs.Calls.{Said, said_of, Tells, call_step, says, next, answers, book_after}
+use Rattle.session.specs.Calls.{Said, said_of, Tells, call_step, answers, book_after}
 
 -- one more answer, as it is told
 pub told_more : (xs ys : List Answer) (a : Answer) → ys ≡ xs ++ a ∷ [] → map said_of ys ≡ map said_of xs ++ said_of a ∷ []
@@ -16,22 +18,10 @@ module _ (b n : Book) (calls : List Call) (i : ℕ) (call : Call) (said : Said) 
     (t : Tells (call_step call) b n said) where
   pub turn_answers : (past past' all : List Said) → past' ≡ past ++ said ∷ [] → past ++ answers b (drop i calls) ≡ all
       → past' ++ answers n (drop (i + 1) calls) ≡ all
-  turn_answers past past' all e inv =
-      let more : answers b (drop i calls) ≡ says b (get_or calls i call) ∷ answers (next b (get_or calls i call)) (drop (i + 1) calls) =
-      at_drop_more (answers b) calls i call h in
-      let told : said ≡ says b call = t.told in
-      let left : n ≡ next b call = t.left in
-      let this : says b (get_or calls i call) ∷ answers (next b (get_or calls i call)) (drop (i + 1) calls) ≡ said ∷ answers n (drop (i + 1) calls) = cc in
-      ap (λ l. l ++ answers n (drop (i + 1) calls)) e
-      ∙ append_assoc past (said ∷ []) (answers n (drop (i + 1) calls))
-      ∙ ap (λ l. past ++ l) (sym (more ∙ this)) ∙ inv
+  turn_answers past past' all e inv = grind (arith, common_steps)
 
   pub turn_book : (end : Book) → book_after b (drop i calls) ≡ end → book_after n (drop (i + 1) calls) ≡ end
-  turn_book end inv =
-      let more : book_after b (drop i calls) ≡ book_after (next b (get_or calls i call)) (drop (i + 1) calls) = at_drop_more (book_after b) calls i call h in
-      let left : n ≡ next b call = t.left in
-      let this : book_after (next b (get_or calls i call)) (drop (i + 1) calls) ≡ book_after n (drop (i + 1) calls) = cc in
-      sym (more ∙ this) ∙ inv
+  turn_book end inv = grind (arith, common_steps)
 
 -- the end of a run: no call is left
 module _ (b : Book) (calls : List Call) (i : ℕ) (h : length calls ≤ i) where
@@ -42,5 +32,4 @@ module _ (b : Book) (calls : List Call) (i : ℕ) (h : length calls ≤ i) where
   last_book end inv = sym (at_drop_all (book_after b) calls i h) ∙ inv
 
 pub lawful_either : (changing : Bool) (saved working : Table) → lawful saved ≡ true → lawful working ≡ true → lawful (cond changing saved working) ≡ true
-lawful_either true saved working s w = s
-lawful_either false saved working s w = w
+lawful_either changing saved working s w = grind arith

@@ -1,5 +1,6 @@
 -- What edits of the book leave as it was.
-use Rattle.std.proofs.Common.{◌≡◌, ℕ, Some, None, Option, refl, ap, ◌∙◌}
+use Rattle.std.proofs.Common.{arith}
+use Rattle.std.proofs.Common.{◌≡◌, ℕ, Option, refl, ap, ◌∙◌}
 use Rattle.rows.specs.declared.fault.Fault.{Fault}
 use Rattle.rows.specs.Steps.{Step, leaves}
 use Rattle.rows.specs.Table.{Table}
@@ -7,8 +8,7 @@ use Rattle.draft.specs.Book.{Book, editing}
 use Rattle.session.specs.Calls.{Said, Tells}
 
 leaves_same : {X : Type 0} (look : Book → X) (o : Option Fault) (was made : Book) → look made ≡ look was → look (leaves o was made) ≡ look was
-leaves_same look None was made e = e
-leaves_same look (Some f) was made e = refl
+leaves_same look o was made e = grind arith
 
 -- an edit neither ends the change nor alters the mark
 module _ (shown : ℕ) (edit : Step Fault Table Said) (was after : Book) (said : Said) (t : Tells (editing shown edit) was after said) where
