@@ -122,7 +122,7 @@ impl Trials {
         self.text.push_str("\n")
     }
 
-    // A line for each place: the table with the word there changed in so many ways.
+    // A line for each place: the table with the word there changed in so many ways. The change takes any two numbers.
     fn each_place<F: Fn(u32, u32) -> u32>(
         &mut self,
         name: &str,
@@ -248,7 +248,7 @@ fn regular(heap: Global, actors: u32, channels: u32, phases: u32) -> Result<Vec<
     Ok(words)
 }
 
-// A word of this kind, with the bits of this content.
+// A word of this kind, with the bits of this content, which may be any.
 fn word(kind: Kind, content: u32) -> u32 {
     kind as u32 * CONTENTS | content
 }

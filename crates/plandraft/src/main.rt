@@ -22,15 +22,15 @@ use std::io::Read;
 fn answered(heap: Global, script: &Script) -> Result<String, AllocError>
     ensures { IfOk result (λ text. string_bytes text ≡ flat_map answer_text (answers (new_book script.now.mark) script.now.calls.items)) }
 {
-    let outcome = run(heap, script.mark, script.calls.as_slice())?;
-    answers_text(heap, outcome.answers.as_slice())
+    let outcome = run(heap, script.mark, &script.calls)?;
+    answers_text(heap, &outcome.answers)
 }
 
 // Nothing is run unless every line is read, and nothing is printed unless every call is answered.
 fn main(rt: HostRuntime) -> anyhow::Result<()> {
     let mut text = Vec::new(rt.alloc());
     rt.stdin().read_to_end(&mut text)?;
-    let script = match parse(rt.alloc(), text.as_slice()) {
+    let script = match parse(rt.alloc(), &text) {
         Ok(script) => script,
         Err(error) => {
             eprintln!(rt; "{error}")?;

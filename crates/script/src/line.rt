@@ -71,7 +71,7 @@ impl<'a> Line<'a> {
         ensures { IfOk result (λ v. (v.items, rest_of self.new) ≡ all_numbers (rest_of self.old)) }
     {
         let mut all = Vec::new(heap);
-        // By a loop: each number is taken off the line as it is read.
+        // By a loop: of what a closure gives that alters the line, a proof knows nothing.
         while let Some(n) = self.number() {
             all.push(n)?;
         }

@@ -47,6 +47,7 @@ fn read_shown(
 ) -> Result<Call, LineError>
     ensures { Reads plain_call result (rest_of line.new) (shown_rest shown expected (rest_of line.old)) }
 {
+    // By tries, as above.
     if line.accept(Token::Keep) {
         Ok(Call::End(shown, Ending::Keep))
     } else if line.accept(Token::Withdraw) {

@@ -40,7 +40,7 @@ pub enum Call {
     Rows,
 }
 
-// What a call is answered. A refusal is a case and no `Err`: a run goes on after it.
+// What a call is answered. A refusal is a case, as in the definitions: an `Err` of `serve` is that memory is wanting.
 #[derive(Drop)]
 pub enum Answer {
     // The call was granted.

@@ -193,7 +193,7 @@ fn apply(draft: &mut Draft, ticket: &Ticket, edit: &Edit) -> Answer
     }
 }
 
-// Keeps or withdraws the change.
+// Keeps or withdraws the change, as the call says, which is data.
 fn finish(draft: &mut Draft, ticket: Ticket, ending: Ending) -> Result<(), Returned>
     ensures { Does (or_gives_back ticket (end_step ending ticket.mark)) (book_of draft.old) (book_of draft.new) result }
 {

@@ -26,7 +26,7 @@ pub enum Expected {
     OneMark,
 }
 
-// Why a line or a text is not read.
+// Why a line or a text is not read: the error that `?` makes of want of memory and of what was expected.
 #[derive(Clone, Copy, Debug)]
 pub enum ReadError<E> {
     NoMemory,

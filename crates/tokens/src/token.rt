@@ -104,7 +104,7 @@ fn keyword_of(word: &[u8]) -> Token
     }
 }
 
-// The keyword of a part of a row.
+// The keyword of a part of a row: apart from those of calls, as in the definitions.
 fn part_word_of(word: &[u8]) -> Token
     ensures { result ≡ part_word word.now }
 {

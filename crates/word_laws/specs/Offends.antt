@@ -1,8 +1,7 @@
 -- What a refusal says of the words, without the steps of reading them.
 use Rattle.std.specs.Prelude.{◌≡◌, ℕ, suc, ◌<◌, ◌≤◌, true, false, List, [], ◌∷◌, ◌++◌, length, take, Some}
-use Rattle.std.specs.List.{AllByRecursion}
+use Rattle.std.specs.List.{AllByRecursion, slice_get}
 use Rattle.rows.specs.declared.fault.Fault.{Fault}
-use Rattle.std.specs.List.{slice_get}
 use Rattle.rows.specs.Table.{ActorRow, ChannelRow, Table, within, lawful, add_actor, add_channel}
 use Rattle.words.specs.declared.fault.WordFault.{WordFault}
 use Rattle.words.specs.declared.fault.WordFault.TheVariants.{Missing, UnknownKind, Misplaced, WrongEnd}

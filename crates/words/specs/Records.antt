@@ -1,8 +1,7 @@
 -- The record at a place of a table of words: its words, its row, or what is wrong with it.
 use Rattle.std.specs.Prelude.{ℕ, zero, suc, ◌+◌, ◌/◌, ◌%◌, Bool, cond, not, ◌&&◌, List, map, length, is_some, Some, None, Err, Option, Result, ◌==◌, nat_lt, slice_index}
-use Rattle.std.specs.List.{between}
+use Rattle.std.specs.List.{between, slice_get}
 use Rattle.rows.specs.Steps.{answer}
-use Rattle.std.specs.List.{slice_get}
 use Rattle.rows.specs.Table.{ActorRow, ChannelRow, actor_with, channel_with, within, placed}
 use Rattle.words.specs.Checks.{check}
 use Rattle.words.specs.declared.fault.WordFault.{WordFault}

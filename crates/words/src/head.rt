@@ -80,6 +80,7 @@ pub(crate) struct Ends {
 }
 
 impl Ends {
+    // By name and no `From`: of the contents of three kinds of head, only a channel's has these fields.
     pub(crate) fn of(content: u32) -> Ends
         ensures writer { result.writer ≡ writer_in content }
         ensures reader { result.reader ≡ reader_in content }

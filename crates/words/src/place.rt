@@ -49,6 +49,7 @@ impl<'a> Place<'a> {
             (λ f. numbers_fault self.entry.words.now self.entry.index count ≡ Some f) }
     {
         let end = self.index + count;
+        // By place, which a fault names.
         for index in self.index..end {
             let word = *self.words.get(index).ok_or(WordFault::Missing(index))?;
             if Kind::of(word) != Some(Kind::Number) {

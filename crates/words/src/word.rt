@@ -16,7 +16,7 @@ pub enum Kind {
 }
 
 impl Kind {
-    // The kind of a word, if a word may have it.
+    // The kind of a word, if a word may have it. No `TryFrom`, since a word has a content beside its kind.
     pub fn of(word: u32) -> Option<Kind>
         ensures { MatchOption result (within 1 7 (kind_of word) ≡ false) (λ kind. kind_of word ≡ kind_number kind) }
     {
