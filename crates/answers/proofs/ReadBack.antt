@@ -1,28 +1,27 @@
 -- The printed rows of a lawful table, read as a script, add each row.
-use Rattle.std.proofs.Common.{◌≡◌, ℕ, ◌+◌, ◌<◌, ◌≤◌, Bool, true, false, eqb, leb, List, [], ◌∷◌, ◌++◌, map, length, Some, None, Ok, Option, Result, sym, refl, ap, ◌∙◌, append_assoc, append-nil, arith}
+use Rattle.std.proofs.lemmas.Grind.{common_steps}
+use Rattle.std.proofs.Common.{rules}
+use Rattle.std.proofs.Common.{◌≡◌, ℕ, ◌+◌, ◌<◌, ◌≤◌, Bool, true, false, leb, List, [], ◌∷◌, ◌++◌, map, length, None, Ok, Option, Result, sym, refl, ap, ◌∙◌, append-nil, arith}
 use Rattle.std.specs.List.{flat_map}
-use Rattle.std.proofs.lemmas.Bool.{and_parts, and_from, leb-true, lt-ltb, ne_eqb, cond-false}
-use Rattle.rows.specs.declared.fault.Fault.TheVariants.{PhaseCount, TimeRange, NotBeforeRange, PinRange}
+use Rattle.std.proofs.lemmas.Bool.{and_parts, leb-true, lt-ltb}
 use Rattle.rows.specs.declared.row.Placement.{Placement}
-use Rattle.rows.specs.declared.row.Placement.TheVariants.{Free, Pinned}
 use Rattle.std.specs.List.{list_all}
-use Rattle.rows.specs.Table.{ActorRow, ChannelRow, Table, within, within_if_given, pin_within, pin_of, good_rates, passes, actor_fault, channel_fault, lawful}
-use Rattle.rows.proofs.Parts.{check_parts, passes_none, accepted}
+use Rattle.rows.specs.Table.{ActorRow, ChannelRow, Table, within, within_if_given, pin_within, pin_of, passes, actor_fault, channel_fault, lawful}
 use Rattle.table.specs.declared.storage.Rows.{Rows}
 use Rattle.table.specs.Tables.{table_of}
 use Rattle.table.proofs.Lawful.{lawful_parts}
 use Rattle.tokens.specs.declared.token.Token.{Token}
-use Rattle.tokens.specs.declared.token.Token.TheVariants.{Mark, Actor, Channel}
+use Rattle.tokens.specs.declared.token.Token.TheVariants.{Mark, Channel}
 use Rattle.tokens.specs.declared.expected.Expected.{Expected}
 use Rattle.tokens.specs.Lines.{tokens_of, lines_from}
-use Rattle.script.specs.Reading.{and_then, starts}
+use Rattle.script.specs.Reading.{starts}
 use Rattle.script.specs.Plain.{PlainCall}
 use Rattle.script.specs.Grammar.{call_of}
-use Rattle.script.specs.Scripts.{PlainScript, sofar_with, line_of, numbered, lines_read, script_of}
+use Rattle.script.specs.Scripts.{PlainScript, sofar_with, line_of, lines_read, script_of}
 use Rattle.answers.specs.Texts.{actor_text, channel_text, table_text}
 use Rattle.answers.specs.Adds.{adds_actor, adds_channel, adds_rows}
 use Rattle.answers.proofs.Figures.{small, all_small}
-use Rattle.answers.proofs.RowLines.{small_if, SmallActor, SmallChannel, actor_line, channel_line, after_actor, after_channel, actor_tokens, channel_tokens, actor_line_call, channel_line_call, actor_line_lem, channel_line_lem}
+use Rattle.answers.proofs.RowLines.{small_if, SmallActor, SmallChannel, actor_line, channel_line, after_channel, channel_tokens, actor_line_call, channel_line_call, actor_line_lem, channel_line_lem}
 
 -- the numbers of an accepted row are small
 
@@ -37,49 +36,22 @@ all_within_small low high [] k h = refl
 all_within_small low high (n ∷ ns) k h = grind (arith, within_small low high n k, all_within_small low high ns k)
 
 given_small : (low high : ℕ) (o : Option ℕ) → high < 4294967296 → within_if_given low high o ≡ true → small_if o ≡ true
-given_small low high None k h = refl
-given_small low high (Some n) k h = within_small low high n k h
+given_small low high o k h = grind arith
 
 pin_small : (p : Placement) → pin_within 15 p ≡ true → small_if (pin_of p) ≡ true
-pin_small Free h = refl
-pin_small (Pinned p) h = under p 15 h (omega arith)
-
-million : 1000000 < 4294967296
-million = omega arith
+pin_small p h = grind arith
 
 actor_small : (a : ActorRow) → passes (actor_fault a) ≡ true → SmallActor a
-actor_small a h =
-    let p = check_parts _ PhaseCount _ (passes_none (actor_fault a) h) in
-    let q = check_parts _ TimeRange _ p.1 in
-    let r = check_parts _ NotBeforeRange _ q.1 in
-    let s = check_parts _ PinRange _ r.1 in
-    record {
-      times = all_within_small 1 1000000 a.times million q.0;
-      not_before = given_small 0 1000000 a.not_before million r.0;
-      pin = pin_small a.placement s.0;
-    }
+actor_small a h = grind (arith, all_within_small, given_small, pin_small)
 
 channel_small : (rows : List ActorRow) (c : ChannelRow) → length rows ≤ 64 → passes (channel_fault rows c) ≡ true → SmallChannel c
-channel_small rows c few h =
-    let ok = accepted rows c (passes_none (channel_fault rows c) h) in
-    let rates = and_parts (good_rates c.writes) (good_rates c.reads) ok.rated in
-    let w = ok.writer_is in
-    let r = ok.reader_is in
-    record {
-      writer = lt-ltb c.writer 4294967296 (omega arith);
-      reader = lt-ltb c.reader 4294967296 (omega arith);
-      writes = all_within_small 0 255 c.writes (omega arith) (and_parts _ _ rates.0).0;
-      reads = all_within_small 0 255 c.reads (omega arith) (and_parts _ _ rates.1).0;
-      ceiling = given_small 1 65535 c.ceiling (omega arith) ok.capped;
-    }
+channel_small rows c few h = grind (arith, all_within_small, given_small)
 
 -- a line that makes a call
 
 line_call : (calls : List PlainCall) (t : Token) (ts : List Token) (c : PlainCall) → starts Mark (t ∷ ts) ≡ false → call_of 0 (t ∷ ts) ≡ Ok c
     → line_of (sofar_with None calls) (t ∷ ts) ≡ Ok (sofar_with None (calls ++ c ∷ []))
-line_call calls t ts c h e =
-    cond-false (eqb (length (t ∷ ts)) 0) _ _ (ne_eqb (length (t ∷ ts)) 0 (λ z. omega arith)) ∙ cond-false (starts Mark (t ∷ ts)) _ _ h
-    ∙ ap (λ r. and_then r (λ k. Ok (sofar_with None (calls ++ k ∷ [])))) e
+line_call calls t ts c h e = grind (arith, common_steps)
 
 -- lines of rows of one kind, and what follows them
 
@@ -90,21 +62,11 @@ module _ {R : Type 0} (text line : R → List ℕ) (call : R → PlainCall) (goo
       → ((k : ℕ) → lines_read k (sofar_with None (calls ++ map call rs)) (lines_from [] rest) ≡ answer)
       → lines_read n (sofar_with None calls) (lines_from [] (flat_map text rs ++ rest)) ≡ answer
   rows_read [] n calls rest answer h k = ap (λ l. lines_read n (sofar_with None l) (lines_from [] rest)) (sym (append-nil calls)) ∙ k n
-  rows_read (r ∷ rs) n calls rest answer h k =
-      let p = and_parts (good r) (list_all good rs) h in
-      let more = flat_map text rs ++ rest in
-      ap (λ l. lines_read n (sofar_with None calls) (lines_from [] l)) (append_assoc (text r) (flat_map text rs) rest)
-      ∙ ap (lines_read n (sofar_with None calls)) (ends r p.0 more)
-      ∙ ap (λ o. and_then (numbered n o) (λ t. lines_read (n + 1) t (lines_from [] more))) (reads r p.0 calls)
-      ∙ rows_read rs (n + 1) (calls ++ call r ∷ []) rest answer p.1
-      (λ j. ap (λ l. lines_read j (sofar_with None l) (lines_from [] rest)) (append_assoc calls (call r ∷ []) (map call rs)) ∙ k j)
+  rows_read (r ∷ rs) n calls rest answer h k = grind (arith, common_steps, rows_read rs (n + 1) (calls ++ call r ∷ []) rest answer)
 
 actor_reads : (a : ActorRow) → passes (actor_fault a) ≡ true → (calls : List PlainCall)
     → line_of (sofar_with None calls) (tokens_of (actor_line a)) ≡ Ok (sofar_with None (calls ++ adds_actor a ∷ []))
-actor_reads a h calls =
-    let s = actor_small a h in
-    let e = actor_tokens a s in
-    ap (line_of (sofar_with None calls)) e ∙ line_call calls Actor (after_actor a.times a.not_before a.placement) (adds_actor a) refl (ap (call_of 0) (sym e) ∙ actor_line_call a s 0)
+actor_reads a h calls = search (rules, actor_small, line_call, actor_line_call)
 
 channel_reads : (rows : List ActorRow) → length rows ≤ 64 → (c : ChannelRow) → passes (channel_fault rows c) ≡ true → (calls : List PlainCall)
     → line_of (sofar_with None calls) (tokens_of (channel_line c)) ≡ Ok (sofar_with None (calls ++ adds_channel c ∷ []))

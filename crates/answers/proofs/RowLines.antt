@@ -1,10 +1,10 @@
 -- The line of a row: its words, and the call that it makes.
+use Rattle.std.proofs.lemmas.Grind.{common_steps}
+use Rattle.std.proofs.Common.{arith}
 use Rattle.std.proofs.Common.{◌≡◌, ℕ, Bool, true, List, [], ◌∷◌, ◌++◌, map, Some, None, Ok, codes, decimal, Option, Result, sym, refl, ap, ◌∙◌, append_assoc, append-nil}
-use Rattle.std.specs.List.{flat_map}
 use Rattle.std.proofs.lemmas.List.{map-append}
 use Rattle.std.proofs.lemmas.Bool.{and_from}
 use Rattle.rows.specs.declared.row.Placement.{Placement}
-use Rattle.rows.specs.declared.row.Placement.TheVariants.{Free, Pinned}
 use Rattle.rows.specs.Table.{ActorRow, ChannelRow, actor_with, channel_with, pin_of, placed}
 use Rattle.tokens.specs.declared.token.Token.{Token}
 use Rattle.tokens.specs.declared.token.Token.TheVariants.{Number, Actor, Times, NotBefore, Pin, Channel, Writes, Reads, Ceiling}
@@ -14,7 +14,7 @@ use Rattle.tokens.specs.Lines.{tokens_of, lines_from}
 use Rattle.script.specs.Reading.{Reading, and_then, this_word, first_number, numbers_from, number_if, ended}
 use Rattle.script.specs.Plain.{PlainEdit, PlainCall, actor_added, channel_added, edited}
 use Rattle.script.specs.Grammar.{call_of}
-use Rattle.answers.specs.Texts.{spaced_text, option_text, actor_text, channel_text}
+use Rattle.answers.specs.Texts.{actor_text, channel_text}
 use Rattle.answers.proofs.Spaced.{wordly, all_words, spaced, words_read, line_read, words_append}
 use Rattle.std.proofs.lemmas.Grind.{flat_map-append}
 use Rattle.answers.proofs.Figures.{small, all_small, figures_word, figures_token, list_words, list_tokens, list_spaced}
@@ -34,17 +34,10 @@ small_if None = true
 small_if (Some n) = small n
 
 opt_words_lem : (name : List ℕ) (o : Option ℕ) → wordly name ≡ true → small_if o ≡ true → all_words (opt_words name o) ≡ true
-opt_words_lem name None h s = refl
-opt_words_lem name (Some n) h s = and_from _ _ h (and_from _ _ (figures_word n s) refl)
+opt_words_lem name o h s = grind (arith, figures_word)
 
 opt_tokens_lem : (name : List ℕ) (o : Option ℕ) → small_if o ≡ true → map token_of (opt_words name o) ≡ opt_tokens (token_of name) o
-opt_tokens_lem name None s = refl
-opt_tokens_lem name (Some n) s = ap (λ t. token_of name ∷ t ∷ []) (figures_token n s)
-
-opt_spaced : (name : List ℕ) (o : Option ℕ) → spaced (opt_words name o) ≡ option_text (32 ∷ (name ++ 32 ∷ [])) o
-opt_spaced name None = refl
-opt_spaced name (Some n) =
-    ap (λ l. 32 ∷ (name ++ 32 ∷ l)) (append-nil (decimal n)) ∙ ap (λ l. 32 ∷ l) (sym (append_assoc name (32 ∷ []) (decimal n)))
+opt_tokens_lem name o s = grind (arith, figures_token)
 
 -- a list's numbers are read up to a token that is no number
 
@@ -53,9 +46,8 @@ figure n = Number n
 
 numbers_read : (ns before : List ℕ) (rest : List Token) → first_number rest ≡ None → numbers_from before (map figure ns ++ rest) ≡ (before ++ ns, rest)
 numbers_read [] before [] h = ap (λ l. (l, [])) (sym (append-nil before))
-numbers_read [] before (t ∷ ts) h =
-    ap (λ o. elim o [ None ↦ (before, t ∷ ts) | Some n ↦ numbers_from (before ++ n ∷ []) ts ]) h ∙ ap (λ l. (l, t ∷ ts)) (sym (append-nil before))
-numbers_read (n ∷ ns) before rest h = numbers_read ns (before ++ n ∷ []) rest h ∙ ap (λ l. (l, rest)) (append_assoc before (n ∷ []) ns)
+numbers_read [] before (t ∷ ts) h = grind (arith, common_steps)
+numbers_read (n ∷ ns) before rest h = grind (arith, common_steps, numbers_read ns (before ++ n ∷ []) rest h)
 
 -- what follows of a call once its last list is read
 
@@ -91,20 +83,14 @@ pub record SmallActor (a : ActorRow) : Type 0 where
   pub pin : small_if (pin_of a.placement) ≡ true
 
 actor_call : (m : ℕ) (ts : List ℕ) (o : Option ℕ) (p : Placement) → call_of m (Actor ∷ after_actor ts o p) ≡ Ok (edited m (actor_added (actor_with ts o p)))
-actor_call m ts None Free = ap (after_times m) (numbers_read ts [] [] refl)
-actor_call m ts None (Pinned p) = ap (after_times m) (numbers_read ts [] (Pin ∷ Number p ∷ []) refl)
-actor_call m ts (Some n) Free = ap (after_times m) (numbers_read ts [] (NotBefore ∷ Number n ∷ []) refl)
-actor_call m ts (Some n) (Pinned p) = ap (after_times m) (numbers_read ts [] (NotBefore ∷ Number n ∷ Pin ∷ Number p ∷ []) refl)
+actor_call m ts o p = grind (arith, numbers_read)
 
 actor_joins : (h j n p t : List ℕ) → ((h ++ j) ++ (n ++ (p ++ 10 ∷ []))) ++ t ≡ (h ++ (j ++ (n ++ p))) ++ 10 ∷ t
 actor_joins h j n p t = simp append_assoc
 
 module _ (a : ActorRow) (s : SmallActor a) where
   actor_words_lem : all_words (actor_words a) ≡ true
-  actor_words_lem =
-      words_append (map decimal a.times) _ (list_words a.times s.times)
-      (words_append (opt_words (codes "not-before") a.not_before) _ (opt_words_lem (codes "not-before") a.not_before refl s.not_before)
-      (opt_words_lem (codes "pin") (pin_of a.placement) refl s.pin))
+  actor_words_lem = grind (arith, words_append, list_words, opt_words_lem)
 
   pub actor_tokens : tokens_of (actor_line a) ≡ Actor ∷ after_actor a.times a.not_before a.placement
   actor_tokens =
@@ -121,16 +107,7 @@ module _ (a : ActorRow) (s : SmallActor a) where
   actor_line_call m = ap (call_of m) actor_tokens ∙ actor_call m a.times a.not_before a.placement
 
   actor_text_lem : (t : List ℕ) → actor_text a ++ t ≡ actor_line a ++ 10 ∷ t
-  actor_text_lem t =
-      let d = map decimal a.times in
-      let x = opt_words (codes "not-before") a.not_before in
-      let y = opt_words (codes "pin") (pin_of a.placement) in
-      let p = list_spaced a.times in
-      let q = opt_spaced (codes "not-before") a.not_before in
-      let r = opt_spaced (codes "pin") (pin_of a.placement) in
-      let e = flat_map-append (λ w. 32 ∷ w) d (x ++ y) ∙ ap (λ l. spaced d ++ l) (flat_map-append (λ w. 32 ∷ w) x y) ∙ (λ i. p i ++ (q i ++ r i)) in
-      actor_joins (codes "actor times") (flat_map spaced_text a.times) (option_text (codes " not-before ") a.not_before) (option_text (codes " pin ") (pin_of a.placement)) t
-      ∙ ap (λ l. (codes "actor times" ++ l) ++ 10 ∷ t) (sym e)
+  actor_text_lem t = grind (arith, common_steps, list_spaced, flat_map-append, spaced, actor_joins)
 
   pub actor_line_lem : (rest : List ℕ) → lines_from [] (actor_text a ++ rest) ≡ actor_line a ∷ lines_from [] rest
   actor_line_lem rest = ap (lines_from []) (actor_text_lem rest) ∙ line_read (codes "actor") (actor_words a) rest refl actor_words_lem
@@ -160,11 +137,7 @@ pub record SmallChannel (c : ChannelRow) : Type 0 where
   pub ceiling : small_if c.ceiling ≡ true
 
 channel_call : (m w r : ℕ) (ws rs : List ℕ) (o : Option ℕ) → call_of m (Channel ∷ after_channel w r ws rs o) ≡ Ok (edited m (channel_added (channel_with w r ws rs o)))
-channel_call m w r ws rs None =
-    ap (after_writes m w r) (numbers_read ws [] (reads_tokens rs None) refl) ∙ ap (λ q. as_call m (after_reads w r ws q)) (numbers_read rs [] [] refl)
-channel_call m w r ws rs (Some n) =
-    ap (after_writes m w r) (numbers_read ws [] (reads_tokens rs (Some n)) refl)
-    ∙ ap (λ q. as_call m (after_reads w r ws q)) (numbers_read rs [] (Ceiling ∷ Number n ∷ []) refl)
+channel_call m w r ws rs o = grind (arith, numbers_read)
 
 channel_joins : (h dw s dr a jw b jr o t : List ℕ)
     → ((h ++ (dw ++ (s ++ dr))) ++ ((a ++ jw) ++ ((b ++ jr) ++ (o ++ 10 ∷ [])))) ++ t
@@ -197,18 +170,7 @@ module _ (c : ChannelRow) (s : SmallChannel c) where
   channel_line_call m = ap (call_of m) channel_tokens ∙ channel_call m c.writer c.reader c.writes c.reads c.ceiling
 
   channel_text_lem : (t : List ℕ) → channel_text c ++ t ≡ channel_line c ++ 10 ∷ t
-  channel_text_lem t =
-      let d = map decimal c.writes in
-      let e = map decimal c.reads in
-      let x = opt_words (codes "ceiling") c.ceiling in
-      let p = list_spaced c.writes in
-      let q = list_spaced c.reads in
-      let o = opt_spaced (codes "ceiling") c.ceiling in
-      let after : spaced (d ++ reads_words c) ≡ flat_map spaced_text c.writes ++ (codes " reads" ++ (flat_map spaced_text c.reads ++ option_text (codes " ceiling ") c.ceiling)) =
-      flat_map-append (λ w. 32 ∷ w) d (reads_words c) ∙ ap (λ l. spaced d ++ (codes " reads" ++ l)) (flat_map-append (λ w. 32 ∷ w) e x) ∙ (λ i. p i ++ (codes " reads" ++ (q i ++ o i))) in
-      channel_joins (codes "channel ") (decimal c.writer) (codes " ") (decimal c.reader) (codes " writes") (flat_map spaced_text c.writes)
-      (codes " reads") (flat_map spaced_text c.reads) (option_text (codes " ceiling ") c.ceiling) t
-      ∙ ap (λ l. (codes "channel " ++ (decimal c.writer ++ (codes " " ++ (decimal c.reader ++ (codes " writes" ++ l))))) ++ 10 ∷ t) (sym after)
+  channel_text_lem t = grind (arith, common_steps, list_spaced, spaced, flat_map-append, channel_joins)
 
   pub channel_line_lem : (rest : List ℕ) → lines_from [] (channel_text c ++ rest) ≡ channel_line c ∷ lines_from [] rest
   channel_line_lem rest = ap (lines_from []) (channel_text_lem rest) ∙ line_read (codes "channel") (channel_words c) rest refl channel_words_lem

@@ -1,8 +1,8 @@
 -- Words with a space before each: the tokens that they are read as, and that they stay on one line.
-use Rattle.std.proofs.Common.{◌≡◌, ℕ, Bool, true, false, not, ◌&&◌, eqb, List, [], ◌∷◌, ◌++◌, map, sym, refl, ap, ◌∙◌, append_assoc, append-nil, arith}
+use Rattle.std.proofs.Common.{◌≡◌, ℕ, Bool, true, false, not, ◌&&◌, eqb, List, [], ◌∷◌, ◌++◌, map, sym, refl, ap, append_assoc, append-nil, arith}
 use Rattle.std.specs.List.{flat_map, list_all}
 use Rattle.std.proofs.lemmas.Grind.{common_steps}
-use Rattle.std.proofs.lemmas.Bool.{and_parts, and_from, not-true, cond-false}
+use Rattle.std.proofs.lemmas.Bool.{and_parts}
 use Rattle.tokens.specs.declared.token.Token.{Token}
 use Rattle.tokens.specs.Tokens.{token_of}
 use Rattle.tokens.specs.Lines.{blank, with_word, tokens_from, tokens_of, lines_from}
@@ -26,36 +26,21 @@ abbrev pub spaced : List (List ℕ) → List ℕ
 spaced ws = flat_map (λ w. 32 ∷ w) ws
 
 pub words_letters : (w : List ℕ) → wordly w ≡ true → letters w ≡ true
-words_letters [] h = refl
-words_letters (b ∷ bs) h = h
+words_letters bs h = grind arith
 
 -- the bytes of a word are read into the word that is begun
 pub word_read : (w : List ℕ) (before : List Token) (begun rest : List ℕ) → letters w ≡ true → tokens_from before begun (w ++ rest) ≡ tokens_from before (begun ++ w) rest
 word_read [] before begun rest h = ap (λ l. tokens_from before l rest) (sym (append-nil begun))
-word_read (b ∷ w) before begun rest h =
-    let p = and_parts (letter b) (letters w) h in
-    let q = and_parts (not (eqb b 35)) (not (blank b)) (and_parts (not (eqb b 10)) (not (eqb b 35) && not (blank b)) p.0).1 in
-    cond-false (eqb b 35) _ _ (not-true (eqb b 35) q.0) ∙ cond-false (blank b) _ _ (not-true (blank b) q.1)
-    ∙ word_read w before (begun ++ b ∷ []) rest p.1 ∙ ap (λ l. tokens_from before l rest) (append_assoc begun (b ∷ []) w)
-
-with_word_lem : (w : List ℕ) (before : List Token) → wordly w ≡ true → with_word before w ≡ before ++ token_of w ∷ []
-with_word_lem [] before h = absurd (cc)
-with_word_lem (b ∷ w) before h = refl
+word_read (b ∷ w) before begun rest h = grind (arith, common_steps, word_read w before (begun ++ b ∷ []) rest)
 
 -- words that follow the one that is begun
 spaced_read : (ws : List (List ℕ)) (before : List Token) (begun : List ℕ) → all_words ws ≡ true → tokens_from before begun (spaced ws) ≡ with_word before begun ++ map token_of ws
 spaced_read [] before begun h = sym (append-nil (with_word before begun))
-spaced_read (w ∷ ws) before begun h =
-    let p = and_parts (wordly w) (all_words ws) h in
-    word_read w (with_word before begun) [] (spaced ws) (words_letters w p.0)
-    ∙ spaced_read ws (with_word before begun) w p.1
-    ∙ ap (λ l. l ++ map token_of ws) (with_word_lem w (with_word before begun) p.0)
-    ∙ append_assoc (with_word before begun) (token_of w ∷ []) (map token_of ws)
+spaced_read (w ∷ ws) before begun h = grind (arith, word_read, append_assoc, spaced_read ws (with_word before begun) w)
 
 -- the tokens of a line are those of its words
 pub words_read : (w : List ℕ) (ws : List (List ℕ)) → wordly w ≡ true → all_words ws ≡ true → tokens_of (w ++ spaced ws) ≡ token_of w ∷ map token_of ws
-words_read w ws h k =
-    word_read w [] [] (spaced ws) (words_letters w h) ∙ spaced_read ws [] w k ∙ ap (λ l. l ++ map token_of ws) (with_word_lem w [] h)
+words_read w ws h k = grind (arith, word_read, spaced_read)
 
 -- no line feed
 abbrev flat : List ℕ → Bool
@@ -63,21 +48,15 @@ flat = list_all (λ b. not (eqb b 10))
 
 flat_letters : (w : List ℕ) → letters w ≡ true → flat w ≡ true
 flat_letters [] h = refl
-flat_letters (b ∷ w) h =
-    let p = and_parts (letter b) (letters w) h in
-    and_from (not (eqb b 10)) (flat w) (and_parts (not (eqb b 10)) (not (eqb b 35) && not (blank b)) p.0).0 (flat_letters w p.1)
+flat_letters (b ∷ w) h = grind (arith, flat_letters w)
 
 flat_spaced : (ws : List (List ℕ)) → all_words ws ≡ true → flat (spaced ws) ≡ true
 flat_spaced [] h = refl
-flat_spaced (w ∷ ws) h =
-    let p = and_parts (wordly w) (all_words ws) h in grind (arith, common_steps, flat_letters w (words_letters w p.0), flat_spaced ws p.1)
+flat_spaced (w ∷ ws) h = grind (arith, and_parts, common_steps, flat_letters, flat_spaced ws)
 
 flat_read : (l begun rest : List ℕ) → flat l ≡ true → lines_from begun (l ++ rest) ≡ lines_from (begun ++ l) rest
 flat_read [] begun rest h = ap (λ k. lines_from k rest) (sym (append-nil begun))
-flat_read (b ∷ l) begun rest h =
-    let p = and_parts (not (eqb b 10)) (flat l) h in
-    cond-false (eqb b 10) _ _ (not-true (eqb b 10) p.0) ∙ flat_read l (begun ++ b ∷ []) rest p.1
-    ∙ ap (λ k. lines_from k rest) (append_assoc begun (b ∷ []) l)
+flat_read (b ∷ l) begun rest h = grind (arith, common_steps, flat_read l (begun ++ b ∷ []) rest)
 
 -- a line of words ends at the line feed that follows it
 pub line_read : (w : List ℕ) (ws : List (List ℕ)) (rest : List ℕ) → wordly w ≡ true → all_words ws ≡ true
