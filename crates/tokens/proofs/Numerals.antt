@@ -1,9 +1,10 @@
 -- A number read digit by digit.
-use Rattle.std.proofs.Common.{◌≡◌, ℕ, Iter, ◌+◌, ◌-◌, ◌*◌, ◌<◌, ◌≤◌, Bool, true, false, cond, ◌&&◌, ltb, leb, List, [], ◌∷◌, length, Some, None, Option, refl, sym, ap, ◌∙◌, ⊎_elim, arith}
+use Rattle.std.proofs.lemmas.Grind.{common_steps}
+use Rattle.std.proofs.Common.{◌≡◌, ℕ, Iter, ◌+◌, ◌-◌, ◌*◌, ◌<◌, ◌≤◌, Bool, true, false, cond, ◌&&◌, ltb, List, [], ◌∷◌, length, Some, None, Option, sym, ap, ◌∙◌, ⊎_elim, arith}
 use Rattle.std.specs.Str.Parse.{digits_value_after}
 use Rattle.std.specs.Char.{is_ascii_digit, digit_value}
 use Rattle.std.specs.Str.{all_ascii_digits}
-use Rattle.std.proofs.lemmas.Bool.{cases_Bool, cond-true, cond-false, and_from, and_left, and_right, and_parts, leb-true, lt-ltb, le-ltb, ltb-true, ltb-false}
+use Rattle.std.proofs.lemmas.Bool.{cases_Bool, cond-true, cond-false, and_from, and_left, and_right, lt-ltb, le-ltb, ltb-true, ltb-false}
 use Rattle.std.specs.Iterator.{Yields, TryFoldTurn, TryFoldsItems}
 use Rattle.std.specs.List.{FoldsTo}
 use Rattle.std.specs.Fn.{Called}
@@ -30,11 +31,7 @@ value_ge [] n = omega arith
 value_ge (c ∷ cs) n = let h = value_ge cs (n * 10 + digit_value c) in omega arith
 
 digit_value_lem : (c : ℕ) → is_ascii_digit c ≡ true → digit_value c ≡ c - 48
-digit_value_lem c d =
-    let p = and_parts (leb 48 c) (leb c 57) d in
-    let a = leb-true 48 c p.0 in
-    let b = leb-true c 57 p.1 in
-    cond-false (ltb c 48) 36 _ (le-ltb c 48 a) ∙ cond-true (ltb c 58) (c - 48) _ (lt-ltb c 58 (omega arith))
+digit_value_lem c d = grind arith
 
 pub read_from : (w : List ℕ) (n : ℕ) → n < 4294967296 → numeral_from n w ≡ below (all_ascii_digits w) (digits_value_after 10 n w)
 read_from [] n h = sym (cond-true (ltb n 4294967296) (Some n) None (lt-ltb n 4294967296 h))
@@ -77,11 +74,7 @@ module _ {F : Type 0} (E : Type 0) (g : Mut F (ℕ × (Bor ℕ × Unit {0})) (Op
       ap (numeral_from n) y ∙ ap (goes_on j.rest.now) went ∙ read_on xs j t k h m a ys es
 
   none_left : (xs : List ℕ) (a : ℕ) → length xs ≡ 0 → numeral_from a xs ≡ Some a
-  none_left [] a e = refl
-  none_left (x ∷ xs) a e = absurd (omega arith)
+  none_left xs a e = grind (arith, common_steps)
 
   pub read_by_try_fold : (s u : Iter ℕ) (f : F) (n : ℕ) (r : Option ℕ) → TryFoldsItems fronts g branches (λ _ q. q ≡ None) s f n r u → r ≡ numeral_from n s.rest.now
-  read_by_try_fold s u f n r (xs, None, h, a, (t, y, e), es, b) = b ∙ sym (read_on xs s t f h n a y es ∙ none_left t.rest.now a e.0)
-  read_by_try_fold s u f n r (xs, Some x, h, a, (t, y, e), es, (v, k, d, c, b, q)) =
-      let stopped : with_digit a x.now ≡ None = sym (reads h k a x v c) ∙ b in
-      q ∙ sym (read_on xs s t f h n a y es ∙ ap (numeral_from a) e ∙ ap (goes_on u.rest.now) stopped)
+  read_by_try_fold s u f n r e = grind (arith, read_on, none_left)
