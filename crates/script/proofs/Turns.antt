@@ -1,12 +1,12 @@
 -- The lines of a text, one after the other.
-use Rattle.std.proofs.Common.{◌≡◌, ℕ, ◌+◌, ◌<◌, ◌≤◌, Bool, true, false, cond, eqb, List, [], ◌∷◌, ◌++◌, length, get_or, drop, Ok, Result, refl, sym, ap, ◌∙◌, append_assoc, append-nil, subst, arith}
+use Rattle.std.proofs.lemmas.Grind.{common_steps}
+use Rattle.std.proofs.Common.{◌≡◌, ℕ, ◌+◌, ◌<◌, Bool, cond, eqb, List, [], ◌∷◌, ◌++◌, length, get_or, drop, Ok, Result, sym, ap, ◌∙◌, append-nil, subst, arith}
 use Rattle.std.specs.List.{slice_split, onto_first, enumerate_from}
-use Rattle.std.proofs.lemmas.List.{at_drop_more, at_drop_all}
+use Rattle.std.proofs.lemmas.List.{at_drop_more}
 use Rattle.std.proofs.lemmas.List.Splits.{length-slice_split}
 use Rattle.std.proofs.lemmas.List.FromFn.{length-enumerate_from, get_or-enumerate_from}
 use Rattle.tokens.specs.declared.expected.ExpectedAt.{ExpectedAt}
 use Rattle.tokens.specs.declared.expected.ReadError.{ReadError}
-use Rattle.tokens.specs.declared.expected.ReadError.TheVariants.{NoMemory, NoCall}
 use Rattle.tokens.specs.declared.expected.Expected.{Expected}
 use Rattle.tokens.specs.Lines.{tokens_of, lines_from, lines_of}
 use Rattle.script.specs.Reading.{and_then}
@@ -22,17 +22,11 @@ onto_line w [] = w ∷ []
 onto_line w (p ∷ ps) = (w ++ p) ∷ ps
 
 onto_none : (ps : List (List ℕ)) → 0 < length ps → onto_line [] ps ≡ ps
-onto_none [] h = absurd (omega arith)
-onto_none (p ∷ ps) h = refl
-
-onto_byte : (w : List ℕ) (b : ℕ) (ps : List (List ℕ)) → onto_line (w ++ b ∷ []) ps ≡ onto_line w (onto_first b ps)
-onto_byte w b [] = refl
-onto_byte w b (p ∷ ps) = ap (λ x. x ∷ ps) (append_assoc w (b ∷ []) p)
+onto_none ps h = grind arith
 
 one_byte : (t : Bool) (w : List ℕ) (b : ℕ) (bs : List ℕ) (ps : List (List ℕ)) → lines_from [] bs ≡ ps → lines_from (w ++ b ∷ []) bs ≡ onto_line (w ++ b ∷ []) ps
     → cond t (w ∷ lines_from [] bs) (lines_from (w ++ b ∷ []) bs) ≡ onto_line w (cond t ([] ∷ ps) (onto_first b ps))
-one_byte true w b bs ps x y = ap (λ l. w ∷ l) x ∙ ap (λ l. l ∷ ps) (sym (append-nil w))
-one_byte false w b bs ps x y = y ∙ onto_byte w b ps
+one_byte t w b bs ps x y = grind (arith, common_steps)
 
 split_some : (text : List ℕ) → 0 < length (slice_split feed text)
 split_some text = omega (arith, length-slice_split feed text)
@@ -63,14 +57,11 @@ pub at_text_line : (text : List ℕ) (k i : ℕ) (line : List ℕ) (s : Sofar) �
 at_text_line text k i line s h = at_line (lines_of text) k i line s (subst (λ ls. IsLineAt ls k (i, line)) (lines_by_split text) h)
 
 pub at_text_end : (text : List ℕ) (k : ℕ) (s : Sofar) → k ≡ length (enumerate_from 0 (slice_split feed text)) → lines_read (k + 1) s (drop k (lines_of text)) ≡ Ok (finished s)
-at_text_end text k s h =
-    let all : length (lines_of text) ≤ k = omega (arith, h, length-enumerate_from 0 (slice_split feed text), ap length (lines_by_split text)) in
-    at_drop_all (lines_read (k + 1) s) (lines_of text) k all
+at_text_end text k s h = grind (arith, common_steps, length-enumerate_from, lines_by_split)
 
 -- a step that gave a value, or that failed
 pub then_ok : {X Y E : Type 0} (r : Result X E) (k : X → Result Y E) (x : X) → r ≡ Ok x → and_then r k ≡ k x
 then_ok r k x e = ap (λ q. and_then q k) e
 
 pub then_fails : {X Y : Type 0} (f : ReadError ExpectedAt) (r : Result X (ℕ × Expected)) (k : X → Result Y (ℕ × Expected)) → FailsAt f r → FailsAt f (and_then r k)
-then_fails NoMemory r k h = tt
-then_fails (NoCall at) r k h = ap (λ q. and_then q k) h
+then_fails x r k h = grind arith
