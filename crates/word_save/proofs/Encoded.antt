@@ -1,11 +1,10 @@
 -- The words of a whole table.
 use Rattle.std.proofs.lemmas.Grind.{common_steps}
-use Rattle.std.proofs.Common.{◌≡◌, ℕ, zero, suc, ◌+◌, ◌<◌, Bool, true, List, [], ◌∷◌, map, length, get_or, sym, ap, ◌∙◌, arith, length-append}
+use Rattle.std.proofs.Common.{◌≡◌, ℕ, ◌+◌, ◌<◌, Bool, true, List, map, length, get_or, sym, ap, ◌∙◌, arith, length-append}
 use lib.ListN.{length-map}
 use Rattle.std.specs.List.{flat_map}
 use Rattle.std.proofs.lemmas.List.{get_or-map}
 use Rattle.std.proofs.lemmas.List.Folds.{flat_map-map}
-use Rattle.std.proofs.lemmas.Bool.{and_parts}
 use Rattle.rows.specs.declared.row.Actor.{Actor}
 use Rattle.rows.specs.declared.row.Channel.{Channel}
 use Rattle.std.specs.List.{list_all}
@@ -14,7 +13,7 @@ use Rattle.rows.specs.Values.{actor_row, channel_row}
 use Rattle.rows.proofs.Parts.{passes_none}
 use Rattle.table.proofs.Lawful.{lawful_parts}
 use Rattle.words.specs.Fitting.{ActorFits, ChannelFits}
-use Rattle.words.specs.Format.{word_of, actor_words, channel_words, row_words, table_words}
+use Rattle.words.specs.Format.{actor_words, channel_words, table_words}
 use Rattle.words.proofs.Fits.{actor_fits, channel_fits, rows_few}
 
 -- an element of a list that passes a test
