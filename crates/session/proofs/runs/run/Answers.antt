@@ -4,18 +4,9 @@ use Rattle.draft.specs.Book.{Book, new_book}
 use Rattle.session.specs.Calls.{said_of, answers, book_after}
 use Rattle.session.specs.Kept.{kept_edits, edited}
 use Rattle.session.specs.Sessions.{session_book}
-use Rattle.session.proofs.Folds.{told_more, turn_answers, turn_book, last_answers, last_book, lawful_either}
+use Rattle.session.proofs.Folds.{last_answers, last_book, lawful_either}
 use Rattle.session.proofs.Keeps.{standing_kept}
 use Rattle.session.proofs.runs.run.Goals as goal
-
-pub loop-call-preserved : goal.loop-call-preserved
-loop-call-preserved c =
-    let tells = c.in_ok-answer.ensures.served in
-    let told = told_more (vec_items c.loop-call.answers) (vec_items c.push.new.self) c.in_ok-answer.answer c.in_ok-push.ensures.items in
-    let i = c.loop-call.invariant in (
-      turn_answers _ _ _ _ c.call-item.result _ c.loop-call-test.true c.call-item.is tells _ _ _ told i.0,
-      turn_book _ _ _ _ c.call-item.result _ c.loop-call-test.true c.call-item.is tells _ i.1,
-    )
 
 pub returns : goal.returns
 returns c =
