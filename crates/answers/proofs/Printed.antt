@@ -1,7 +1,6 @@
 -- One turn of a loop that prints rows.
 use Rattle.std.proofs.lemmas.Grind.{common_steps}
-use Rattle.std.proofs.Common.{arith}
-use Rattle.std.proofs.Common.{◌≡◌, ℕ, ◌+◌, ◌<◌, List, ◌++◌, map, length, get_or, take}
+use Rattle.std.proofs.Common.{◌≡◌, ℕ, ◌+◌, ◌<◌, List, ◌++◌, map, length, get_or, take, arith}
 use Rattle.std.specs.List.{flat_map}
 
 pub rows_more : {X Y : Type 0} (text : Y → List ℕ) (bs before after : List ℕ) (row : X → Y) (xs : List X) (i : ℕ) (x : X) → i < length xs → x ≡ get_or xs i x

@@ -1,11 +1,9 @@
 -- The printed rows of a lawful table, read as a script, add each row.
 use Rattle.std.proofs.lemmas.Grind.{common_steps}
-use Rattle.std.proofs.Common.{rules}
-use Rattle.std.proofs.Common.{◌≡◌, ℕ, ◌+◌, ◌<◌, ◌≤◌, Bool, true, false, leb, List, [], ◌∷◌, ◌++◌, map, length, None, Ok, Option, Result, sym, refl, ap, ◌∙◌, append-nil, arith}
-use Rattle.std.specs.List.{flat_map}
+use Rattle.std.proofs.Common.{◌≡◌, ℕ, ◌+◌, ◌<◌, ◌≤◌, Bool, true, false, leb, List, [], ◌∷◌, ◌++◌, map, length, None, Ok, Option, Result, sym, refl, ap, ◌∙◌, append-nil, arith, rules}
+use Rattle.std.specs.List.{flat_map, list_all}
 use Rattle.std.proofs.lemmas.Bool.{and_parts, leb-true, lt-ltb}
 use Rattle.rows.specs.declared.row.Placement.{Placement}
-use Rattle.std.specs.List.{list_all}
 use Rattle.rows.specs.Table.{ActorRow, ChannelRow, Table, within, within_if_given, pin_within, pin_of, passes, actor_fault, channel_fault, lawful}
 use Rattle.table.specs.declared.storage.Rows.{Rows}
 use Rattle.table.specs.Tables.{table_of}

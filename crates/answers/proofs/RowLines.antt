@@ -1,7 +1,6 @@
 -- The line of a row: its words, and the call that it makes.
-use Rattle.std.proofs.lemmas.Grind.{common_steps}
-use Rattle.std.proofs.Common.{arith}
-use Rattle.std.proofs.Common.{◌≡◌, ℕ, Bool, true, List, [], ◌∷◌, ◌++◌, map, Some, None, Ok, codes, decimal, Option, Result, sym, refl, ap, ◌∙◌, append_assoc, append-nil}
+use Rattle.std.proofs.lemmas.Grind.{common_steps, flat_map-append}
+use Rattle.std.proofs.Common.{◌≡◌, ℕ, Bool, true, List, [], ◌∷◌, ◌++◌, map, Some, None, Ok, codes, decimal, Option, Result, sym, refl, ap, ◌∙◌, append_assoc, append-nil, arith}
 use Rattle.std.proofs.lemmas.List.{map-append}
 use Rattle.std.proofs.lemmas.Bool.{and_from}
 use Rattle.rows.specs.declared.row.Placement.{Placement}
@@ -16,7 +15,6 @@ use Rattle.script.specs.Plain.{PlainEdit, PlainCall, actor_added, channel_added,
 use Rattle.script.specs.Grammar.{call_of}
 use Rattle.answers.specs.Texts.{actor_text, channel_text}
 use Rattle.answers.proofs.Spaced.{wordly, all_words, spaced, words_read, line_read, words_append}
-use Rattle.std.proofs.lemmas.Grind.{flat_map-append}
 use Rattle.answers.proofs.Figures.{small, all_small, figures_word, figures_token, list_words, list_tokens, list_spaced}
 
 -- an optional part

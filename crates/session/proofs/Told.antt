@@ -1,6 +1,5 @@
 -- What edits of the book leave as it was.
-use Rattle.std.proofs.Common.{arith}
-use Rattle.std.proofs.Common.{◌≡◌, ℕ, Option, refl, ap, ◌∙◌}
+use Rattle.std.proofs.Common.{◌≡◌, ℕ, Option, refl, ap, ◌∙◌, arith}
 use Rattle.rows.specs.declared.fault.Fault.{Fault}
 use Rattle.rows.specs.Steps.{Step, leaves}
 use Rattle.rows.specs.Table.{Table}

@@ -2,9 +2,8 @@
 use Rattle.std.proofs.lemmas.Grind.{common_steps}
 use Rattle.std.proofs.lemmas.Option.{gets}
 use Rattle.std.proofs.Common.{◌≡◌, ℕ, zero, suc, ◌+◌, ◌-◌, ◌<◌, ◌≤◌, Bool, List, length, take, drop, Ok, sym, refl, ap, ◌∙◌, arith}
-use Rattle.std.specs.List.{between}
+use Rattle.std.specs.List.{between, slice_get}
 use Rattle.std.proofs.lemmas.List.{take-take, drop-take}
-use Rattle.std.specs.List.{slice_get}
 use Rattle.words.specs.Records.{actor_part, channel_part, numbers_fault, record_at}
 use Rattle.words.proofs.Whole.{ActorRead, ChannelRead, past_within}
 

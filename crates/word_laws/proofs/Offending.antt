@@ -1,6 +1,6 @@
 -- A fault of a word: the first that offends, or one that is missing.
 use Rattle.std.proofs.lemmas.Grind.{common_steps}
-use Rattle.std.proofs.lemmas.Option.{gets}
+use Rattle.std.proofs.lemmas.Option.{slice_get_within, slice_get-get_or, gets}
 use Rattle.std.proofs.Common.{◌≡◌, ◌⊎◌, ⊎_elim, ℕ, zero, suc, ◌+◌, ◌<◌, ◌≤◌, Bool, true, false, not, ltb, List, [], ◌∷◌, ◌++◌, length, get_or, take, drop, Some, None, Err, Option, sym, refl, ap, ◌∙◌, subst, append_assoc, append-nil, arith}
 use Rattle.std.proofs.lemmas.List.{length-take-le, take_all, take_at, drop_at}
 use Rattle.std.proofs.lemmas.Bool.{cases_eq, and_parts, not-true, ltb-true, eqb-true, eqb-false, cond-true, cond-false}
@@ -16,7 +16,6 @@ use Rattle.words.specs.Records.{wrong_kind, number_fault, numbers_fault, writes_
 use Rattle.words.specs.Loads.{has_channels}
 use Rattle.words.proofs.Bits.{word_again}
 use Rattle.word_laws.proofs.Places.{slice_get_head}
-use Rattle.std.proofs.lemmas.Option.{slice_get_within, slice_get-get_or}
 use Rattle.words.proofs.Headed.{headed_by_lem, wrongly_headed}
 use Rattle.words.proofs.Whole.{numbers_within}
 use Rattle.word_laws.proofs.Alike.{slice_get_alike, numbers_alike}

@@ -2,10 +2,9 @@
 use Rattle.std.proofs.lemmas.Grind.{common_steps}
 use Rattle.std.proofs.Common.{◌≡◌, ℕ, zero, suc, ◌+◌, ◌-◌, ◌<◌, ◌≤◌, Bool, true, false, List, [], ◌∷◌, ◌++◌, length, drop, Some, None, Ok, Err, Option, Result, sym, refl, ap, ◌∙◌, append_assoc, append-nil, arith, length-append, drop_at}
 use lib.Seq.{append_snoc}
-use Rattle.std.specs.List.{flat_map, AllByRecursion}
+use Rattle.std.specs.List.{flat_map, AllByRecursion, list_all}
 use Rattle.std.proofs.lemmas.Bool.{cond-true, and_parts, lt-ltb}
 use Rattle.rows.specs.declared.fault.Fault.{Fault}
-use Rattle.std.specs.List.{list_all}
 use Rattle.rows.specs.Table.{ActorRow, ChannelRow, Table, actor_fault, channel_fault, lawful, add_actor, add_channel}
 use Rattle.rows.proofs.Parts.{passes_none}
 use Rattle.table.proofs.Lawful.{lawful_parts}

@@ -2,12 +2,11 @@
 use Rattle.std.proofs.lemmas.Grind.{common_steps}
 use Rattle.std.proofs.Common.{◌≡◌, ℕ, ◌+◌, ◌<◌, Bool, true, List, map, length, get_or, sym, ap, ◌∙◌, arith, length-append}
 use lib.ListN.{length-map}
-use Rattle.std.specs.List.{flat_map}
+use Rattle.std.specs.List.{flat_map, list_all}
 use Rattle.std.proofs.lemmas.List.{get_or-map}
 use Rattle.std.proofs.lemmas.List.Folds.{flat_map-map}
 use Rattle.rows.specs.declared.row.Actor.{Actor}
 use Rattle.rows.specs.declared.row.Channel.{Channel}
-use Rattle.std.specs.List.{list_all}
 use Rattle.rows.specs.Table.{Table, lawful, passes, actor_fault, channel_fault}
 use Rattle.rows.specs.Values.{actor_row, channel_row}
 use Rattle.rows.proofs.Parts.{passes_none}

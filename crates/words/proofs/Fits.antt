@@ -1,8 +1,7 @@
 -- The rows of a lawful table fit the words, and take few of them.
 use Rattle.std.proofs.lemmas.Grind.{common_steps}
 use Rattle.std.proofs.Common.{◌≡◌, ℕ, zero, suc, ◌+◌, ◌*◌, ◌<◌, ◌≤◌, Bool, true, List, [], ◌∷◌, length, None, arith, length-append}
-use Rattle.std.specs.List.{flat_map}
-use Rattle.std.specs.List.{list_all}
+use Rattle.std.specs.List.{flat_map, list_all}
 use Rattle.rows.specs.Table.{ActorRow, ChannelRow, Table, within, good_rates, phases_at, passes, actor_fault, channel_fault, lawful}
 use Rattle.rows.proofs.Parts.{passes_none, accepted}
 use Rattle.table.proofs.Lawful.{every_weaker}

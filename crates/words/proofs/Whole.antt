@@ -2,9 +2,8 @@
 use Rattle.std.proofs.lemmas.Grind.{common_steps}
 use Rattle.std.proofs.lemmas.Option.{gets}
 use Rattle.std.proofs.Common.{◌≡◌, ℕ, zero, suc, ◌+◌, ◌<◌, ◌≤◌, Bool, false, List, length, Some, None, Ok, arith}
-use Rattle.std.specs.List.{between}
+use Rattle.std.specs.List.{between, slice_get}
 use Rattle.std.proofs.lemmas.Bool.{ltb-true, eqb-true}
-use Rattle.std.specs.List.{slice_get}
 use Rattle.words.specs.Format.{kind_of, content_of}
 use Rattle.words.specs.Records.{Part, actor_part, channel_part, end_part, past, numbers_fault, record_at, writes_in, reads_in, head_content}
 
