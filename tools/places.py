@@ -78,6 +78,17 @@ def shape(body):
     return [t if t in words or not re.match(r"\w", t) else "0" if t[0].isdigit() else "name" for t in tokens]
 
 
+# Forms that one line shows, with the point that each belongs to.
+LINES = [
+    ("1 refusals without a Result", r"-> Option<Fault>|-> \(u32, usize\)"),
+    ("1 results passed on by a match", r"Err\(\w+\) => (?:return )?(?:Err|Answer::Refused)\(|None => (?:return )?Err\(|=> unreachable|None => return None|^ *return Err\(AllocError|is_err\(\)"),
+    ("3 loops by an index", r"^ *while |\.enumerate\(\)| \+= 1;|\.wrapping_mul\(2\)| \+= \w+\.len\(\);"),
+    ("6 arrays that are filled in part", r"\[(?:u8|u32|u64|T); \w+\]|let mut \w+ = \[\w+; \w+\];"),
+    ("6 searches by hand, as chains of tests", r"^ *if is_word\(|^ *if \w+\.accept\("),
+    ("7 arms that choose a step", r"^ *(?:(?:Call|Edit|Ending|Record|Kind)::\w+|[A-Z]+)(?:\([^)]*\)| \{[^}]*\})? => \W*(?:Ok\()?(?:self\.|draft\.|\w+\()"),
+]
+
+
 def main():
     root = sys.argv[1] if len(sys.argv) > 1 else "."
     sources = [Source(root, p) for p in sorted(glob.glob(os.path.join(root, "crates/*/src/*.rt")))]
@@ -87,6 +98,9 @@ def main():
         found[point].append("%s:%d: %s" % (source.path, line, text))
 
     for s in sources:
+        for point, pattern in LINES:
+            for line, text in s.found(pattern):
+                add(point, s, line, text)
         for m in re.finditer(r"^(?:pub(?:\(crate\))? )?enum (\w+)[^{]*", s.text, re.M):
             begin, end = body_at(s.text, m.start())
             cases = re.findall(r"^    \w+[^,\n]*", s.text[begin:end], re.M)
@@ -101,12 +115,6 @@ def main():
         for name, line, body in bodies(s):
             if re.search(r"^ *(?:\w+::\w+(?:\([^)]*\)| \{[^}]*\})?)(?: \| .*)? => \d[^,\n]*,$", body, re.M):
                 add("1 functions that number the cases of an enum by a match", s, line, name)
-        for line, text in s.found(r"-> Option<Fault>|-> \(u32, usize\)"):
-            add("1 refusals without a Result", s, line, text)
-        for line, text in s.found(r"Err\(\w+\) => (?:return )?(?:Err|Answer::Refused)\(|None => (?:return )?Err\(|=> unreachable|None => return None|^ *return Err\(AllocError|is_err\(\)"):
-            add("1 results passed on by a match", s, line, text)
-        for line, text in s.found(r"^ *while |\.enumerate\(\)| \+= 1;|\.wrapping_mul\(2\)| \+= \w+\.len\(\);"):
-            add("3 loops by an index", s, line, text)
         for m in re.finditer(r"^ *for (\w+) in [^\n]*\.\.[^\n]*\{$", s.text, re.M):
             begin, end = body_at(s.text, m.start())
             if re.search(r"\[[^\]]*\b%s\b" % m.group(1), s.text[begin:end]):
@@ -114,12 +122,6 @@ def main():
         for name, line, _, _ in functions(s):
             if re.fullmatch(r"push_\w+|tell|show|name_of|is|place|pin|from_pin|pin_of|placement_of|placed|keyword_of|part_word_of|number_of|is_word|with_digit|told", name):
                 add("4 equality, conversion and printing by functions", s, line, name)
-        for line, text in s.found(r"\[(?:u8|u32|u64|T); \w+\]|let mut \w+ = \[\w+; \w+\];"):
-            add("6 arrays that are filled in part", s, line, text)
-        for line, text in s.found(r"^ *if is_word\(|^ *if \w+\.accept\("):
-            add("6 searches by hand, as chains of tests", s, line, text)
-        for line, text in s.found(r"^ *(?:(?:Call|Edit|Ending|Record|Kind)::\w+|[A-Z]+)(?:\([^)]*\)| \{[^}]*\})? => \W*(?:Ok\()?(?:self\.|draft\.|\w+\()"):
-            add("7 arms that choose a step", s, line, text)
 
     twins = []
     together = defaultdict(list)
