@@ -1,6 +1,6 @@
 // Why a call on a draft is refused.
 ghost use Rattle.std.specs.Prelude.{◌≡◌, ℕ, Some};
-ghost use Rattle.rows.specs.Faults.{shown, fault_text};
+ghost use Rattle.rows.specs.Faults.{shown, number_of, place_of, fault_text};
 
 use std::error::Error;
 use std::fmt;
@@ -51,16 +51,31 @@ pub trait Refusal {
         ensures { result ≡ (number_and_place self.now).1 };
 }
 
-// None of the refusals of rows and changes names a place.
+impl Fault {
+    // The number by which the refusal is known.
+    pub fn number(self) -> u32
+        ensures { result ≡ number_of self }
+    {
+        self as u32
+    }
+
+    // The place that the refusal names: 0, since none of these names one.
+    pub fn place(self) -> u32
+        ensures { result ≡ place_of self }
+    {
+        0
+    }
+}
+
 impl Refusal for Fault {
     ghost number_and_place = { shown };
 
     fn number(&self) -> u32 {
-        *self as u32
+        Fault::number(*self)
     }
 
     fn place(&self) -> usize {
-        0
+        Fault::place(*self) as usize
     }
 }
 
