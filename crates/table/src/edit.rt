@@ -2,6 +2,7 @@
 ghost use Rattle.rows.specs.Steps.{Step, Does};
 ghost use Rattle.rows.specs.Table.{Table};
 ghost use Rattle.rows.specs.declared.fault.Fault.{Fault};
+ghost use Rattle.table.specs.Edits.{EditOf};
 ghost use Rattle.table.specs.Tables.{table_of};
 
 use crate::storage::Rows;
@@ -17,12 +18,16 @@ pub trait Edit: Drop {
     // Makes the edit, or is refused and leaves the rows as they are.
     fn make(self, rows: &mut Rows) -> Result<Self::Answer, Fault>
         ensures { Does (step self) (table_of rows.old) (table_of rows.new) result };
+
+    // The step is one of those that `EditOf` names: it adds or cuts an actor or a channel.
+    ghost known: { (edit : Self) → EditOf Self.Answer (step edit) };
 }
 
 impl Rows {
     // Makes an edit.
     pub fn edit<E: Edit>(&mut self, edit: E) -> Result<E::Answer, Fault>
-        ensures { Does (E.step edit) (table_of self.old) (table_of self.new) result }
+        ensures made { Does (E.step edit) (table_of self.old) (table_of self.new) result }
+        ensures known { EditOf E.Answer (E.step edit) }
     {
         edit.make(self)
     }

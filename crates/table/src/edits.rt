@@ -4,6 +4,7 @@ ghost use Rattle.rows.specs.Steps.{Does};
 ghost use Rattle.std.specs.List.{list_all};
 ghost use Rattle.rows.specs.Table.{names, renumbered_ends, add_actor, add_channel, cut_actor, cut_channel};
 ghost use Rattle.rows.specs.Values.{channel_row, new_actor_row, new_channel_row};
+ghost use Rattle.table.specs.Edits.{itself, actor_added, channel_added, actor_cut, channel_cut};
 ghost use Rattle.table.specs.Tables.{table_of};
 
 use crate::edit::Edit;
@@ -17,6 +18,8 @@ impl Edit for NewActor<'_> {
     type Answer = usize;
 
     ghost step = { λ a. add_actor (new_actor_row a) };
+
+    ghost known = { λ a. actor_added (new_actor_row a) itself };
 
     fn make(self, rows: &mut Rows) -> Result<usize, Fault> {
         let number = rows.actors.len();
@@ -34,6 +37,8 @@ impl Edit for NewChannel<'_> {
     type Answer = usize;
 
     ghost step = { λ c. add_channel (new_channel_row c) };
+
+    ghost known = { λ c. channel_added (new_channel_row c) itself };
 
     fn make(self, rows: &mut Rows) -> Result<usize, Fault> {
         let number = rows.channels.len();
@@ -55,6 +60,8 @@ impl Edit for CutChannel {
 
     ghost step = { λ cut. cut_channel cut.0 };
 
+    ghost known = { λ cut. channel_cut cut.0 itself };
+
     fn make(self, rows: &mut Rows) -> Result<(), Fault> {
         let CutChannel(number) = self;
         if number >= rows.channels.len() {
@@ -73,6 +80,8 @@ impl Edit for CutActor {
     type Answer = ();
 
     ghost step = { λ cut. cut_actor cut.0 };
+
+    ghost known = { λ cut. actor_cut cut.0 itself };
 
     fn make(self, rows: &mut Rows) -> Result<(), Fault> {
         let CutActor(number) = self;

@@ -17,4 +17,4 @@ returns c =
     let pin = c.given-pin.ensures ∙ ap (λ ws. given ws c.past.result.index 5) c.past.ensures.same ∙ ap (λ i. given part i 5) c.past.ensures.value in
     subst (λ a. Does (add_actor a) (table_of c.args.rows.now) (table_of c.edit.new.self) c.edit.result)
     (actor_made part c.content_of-count.result _ _ c.given-pin.result _ count times c.given-not_before.ensures pin c.from.ensures)
-    c.edit.ensures
+    c.edit.ensures.made
