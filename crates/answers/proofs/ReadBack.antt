@@ -73,7 +73,7 @@ channel_reads rows few c h calls =
     let e = channel_tokens c s in
     ap (line_of (sofar_with None calls)) e ∙ line_call calls Channel (after_channel c.writer c.reader c.writes c.reads c.ceiling) (adds_channel c) refl (ap (call_of 0) (sym e) ∙ channel_line_call c s 0)
 
-table_reads : (t : Table) → lawful t ≡ true → script_of (table_text t) ≡ Ok (adds_rows t)
+pub table_reads : (t : Table) → lawful t ≡ true → script_of (table_text t) ≡ Ok (adds_rows t)
 table_reads t l =
     let p = lawful_parts t l in
     let rest = flat_map channel_text t.channels in
