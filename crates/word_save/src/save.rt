@@ -1,6 +1,5 @@
 // Rows saved as a table of words.
 ghost use Rattle.std.specs.Prelude.{◌≡◌, ℕ, ◌+◌, ◌<◌, ◌≤◌, true, List, ◌++◌, map, length, IfOk, slice_index_or};
-ghost use Rattle.arrayvec.specs.ArrayVec.{array_vec_len};
 ghost use Rattle.std.specs.List.{flat_map};
 ghost use Rattle.rows.specs.Steps.{Does};
 ghost use Rattle.std.specs.List.{list_all};
@@ -8,10 +7,9 @@ ghost use Rattle.rows.specs.Values.{actor_row, channel_row};
 ghost use Rattle.table.specs.Tables.{table_of};
 ghost use Rattle.words.specs.Fitting.{small, small_if, ActorFits, ChannelFits};
 ghost use Rattle.words.specs.Format.{kind_number, word_of, option_words, ends_content, actor_words, channel_words, table_words};
-ghost use Rattle.word_save.specs.Saves.{saving};
+ghost use Rattle.word_save.specs.Saves.{written, saving};
 
 use crate::fault::SaveFault;
-use arrayvec::ArrayVec;
 use rows::row::{Actor, Channel};
 use std::alloc::{AllocError, Global};
 use table::storage::Rows;
@@ -51,17 +49,10 @@ fn write_table(rows: &Rows, out: &mut [u32])
     requires { length out.old ≡ length (table_words (table_of rows.now)) }
     ensures { out.new ≡ table_words (table_of rows.now) }
 {
-    let actors = rows.actors();
-    let channels = rows.channels();
-    let (actor_words, rest) = out.split_at_mut(size_of(actors));
-    let (channel_words, end) = rest.split_at_mut(size_of(channels));
-    write_rows(actors, actor_words);
-    write_rows(channels, channel_words);
-    end[0] = word_of(Kind::End, (actor_words.len() + channel_words.len()) as u32);
+    let channels_from = write_rows(rows.actors(), out);
+    let end = channels_from + write_rows(rows.channels(), &mut out[channels_from..]);
+    out[end] = word_of(Kind::End, end as u32);
 }
-
-// The words of a record: a head, the numbers of at most two lists of phases, and an optional number.
-type Words = ArrayVec<u32, 18>;
 
 // A row that is written as the words of a record.
 trait Encode {
@@ -73,10 +64,10 @@ trait Encode {
     fn size(&self) -> usize
         ensures { result ≡ length (words self.now) };
 
-    // The words of the record.
-    fn encode(&self) -> Words
-        requires { fits self.now }
-        ensures { result.items ≡ words self.now };
+    // Writes the words of the record over as many words.
+    fn encode(&self, out: &mut [u32])
+        requires { (fits self.now) × (length out.old ≡ length (words self.now)) }
+        ensures { out.new ≡ words self.now };
 }
 
 impl Encode for Actor {
@@ -90,14 +81,15 @@ impl Encode for Actor {
             + option_size(self.placement.pin())
     }
 
-    fn encode(&self) -> Words {
+    fn encode(&self, out: &mut [u32]) {
         let times = self.times.as_slice();
-        let mut words = ArrayVec::new();
-        words.push(word_of(Kind::Actor, times.len() as u32));
-        push_numbers(&mut words, times);
-        push_option(&mut words, Kind::NotBefore, self.not_before);
-        push_option(&mut words, Kind::Pin, self.placement.pin());
-        words
+        let (head, rest) = out.split_at_mut(1);
+        let (numbers, options) = rest.split_at_mut(times.len());
+        let (not_before, pin) = options.split_at_mut(option_size(self.not_before));
+        head[0] = word_of(Kind::Actor, times.len() as u32);
+        write_numbers(times, numbers);
+        write_option(Kind::NotBefore, self.not_before, not_before);
+        write_option(Kind::Pin, self.placement.pin(), pin);
     }
 }
 
@@ -110,13 +102,14 @@ impl Encode for Channel {
         1 + self.writes.as_slice().len() + self.reads.as_slice().len() + option_size(self.ceiling)
     }
 
-    fn encode(&self) -> Words {
-        let mut words = ArrayVec::new();
-        words.push(word_of(Kind::Channel, ends_content(self)));
-        push_numbers(&mut words, self.writes.as_slice());
-        push_numbers(&mut words, self.reads.as_slice());
-        push_option(&mut words, Kind::Ceiling, self.ceiling);
-        words
+    fn encode(&self, out: &mut [u32]) {
+        let (head, rest) = out.split_at_mut(1);
+        let (writes, rest) = rest.split_at_mut(self.writes.as_slice().len());
+        let (reads, ceiling) = rest.split_at_mut(self.reads.as_slice().len());
+        head[0] = word_of(Kind::Channel, ends_content(self));
+        write_numbers(self.writes.as_slice(), writes);
+        write_numbers(self.reads.as_slice(), reads);
+        write_option(Kind::Ceiling, self.ceiling, ceiling);
     }
 }
 
@@ -139,20 +132,21 @@ fn size_of<T: Encode>(rows: &[T]) -> usize
     rows.iter().map(|row| row.size()).sum()
 }
 
-// Writes the words of the rows over as many words.
-fn write_rows<T: Encode>(rows: &[T], out: &mut [u32])
+// Writes the words of the rows over the first of the words given, and answers how many they are.
+fn write_rows<T: Encode>(rows: &[T], out: &mut [u32]) -> usize
     requires fit { (i : ℕ) (d : T) → i < length rows.now → T.Encode.fits (slice_index_or rows.now i d) }
-    requires room { length out.old ≡ length (flat_map T.Encode.words rows.now) }
-    ensures { out.new ≡ flat_map T.Encode.words rows.now }
+    requires room { length (flat_map T.Encode.words rows.now) ≤ length out.old }
+    ensures size { result ≡ length (flat_map T.Encode.words rows.now) }
+    ensures out { out.new ≡ written 0 (flat_map T.Encode.words rows.now) out.old }
 {
     // By place: of a slice that moves along, a proof knows only the part that is left.
     let mut place = 0;
     for row in rows {
-        let words = row.encode();
-        let end = place + words.len();
-        out[place..end].copy_from_slice(&words);
+        let end = place + row.size();
+        row.encode(&mut out[place..end]);
         place = end;
     }
+    place
 }
 
 fn option_size(number: Option<u32>) -> usize
@@ -162,23 +156,23 @@ fn option_size(number: Option<u32>) -> usize
     usize::from(number.is_some())
 }
 
-// Adds a word, where there is a number for it.
-fn push_option(words: &mut Words, kind: Kind, number: Option<u32>)
-    requires { (small_if number ≡ true) × (array_vec_len words.old < 18) }
-    ensures { words.new.items ≡ words.old.items ++ option_words (kind_number kind) number }
+// Writes the word of a number, if there is one, over as many words.
+fn write_option(kind: Kind, number: Option<u32>, out: &mut [u32])
+    requires { (small_if number ≡ true) × (length out.old ≡ length (option_words (kind_number kind) number)) }
+    ensures { out.new ≡ option_words (kind_number kind) number }
 {
     if let Some(n) = number {
-        words.push(word_of(kind, n));
+        out[0] = word_of(kind, n);
     }
 }
 
-// Adds a word for each number.
-fn push_numbers(words: &mut Words, numbers: &[u32])
-    requires { (list_all small numbers.now ≡ true) × (array_vec_len words.old + length numbers.now ≤ 18) }
-    ensures { words.new.items ≡ words.old.items ++ map (word_of 3) numbers.now }
+// Writes a word for each number over as many words.
+fn write_numbers(numbers: &[u32], out: &mut [u32])
+    requires { (list_all small numbers.now ≡ true) × (length out.old ≡ length numbers.now) }
+    ensures { out.new ≡ map (word_of 3) numbers.now }
 {
-    for n in numbers {
-        words.push(word_of(Kind::Number, *n));
+    for (i, n) in numbers.iter().enumerate() {
+        out[i] = word_of(Kind::Number, *n);
     }
 }
 

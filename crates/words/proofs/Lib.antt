@@ -1,3 +1,4 @@
+pub mod Checks
 pub mod Bits
 pub mod Fits
 pub mod Found

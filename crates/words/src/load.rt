@@ -1,5 +1,5 @@
 // Rows loaded from a table of words.
-ghost use Rattle.std.specs.Prelude.{◌≡◌, suc, ◌+◌, ◌<◌, ◌≤◌, map, length, Ok, Err, MatchResult};
+ghost use Rattle.std.specs.Prelude.{◌≡◌, suc, ◌+◌, ◌<◌, ◌≤◌, map, length, take, Ok, Err, MatchResult};
 ghost use Rattle.rows.specs.Steps.{Does};
 ghost use Rattle.rows.specs.Table.{add_actor, add_channel};
 ghost use Rattle.table.specs.Tables.{table_of};
@@ -12,7 +12,6 @@ use crate::head::Ends;
 use crate::place::Place;
 use crate::record::Record;
 use crate::word::{Kind, content_of};
-use arrayvec::ArrayVec;
 use rows::fault::Fault;
 use rows::row::{NewActor, NewChannel, Placement};
 use table::storage::Rows;
@@ -76,7 +75,7 @@ fn add_actor(rows: &mut Rows, part: &[u32]) -> Result<usize, Fault>
     let not_before = rest.given(Kind::NotBefore);
     let pin = rest.past(Kind::NotBefore).given(Kind::Pin);
     rows.edit(NewActor {
-        times: times.as_slice(),
+        times: &times[..count],
         not_before,
         placement: Placement::from(pin),
     })
@@ -99,20 +98,21 @@ fn add_channel(rows: &mut Rows, part: &[u32]) -> Result<usize, Fault>
     rows.edit(NewChannel {
         writer: ends.writer,
         reader: ends.reader,
-        writes: writes.as_slice(),
-        reads: reads.as_slice(),
+        writes: &writes[..ends.writes],
+        reads: &reads[..ends.reads],
         ceiling: rest.given(Kind::Ceiling),
     })
 }
 
-// The contents of the words of a list, which a head counts in 8 bits.
-fn contents(words: &[u32]) -> ArrayVec<u32, 255>
+// The contents of the words of a list, which a head counts in 8 bits. They lie in an array, whose length the caller
+// has: a load takes no memory, and no crate is used but the programs' `anyhow`.
+fn contents(words: &[u32]) -> [u32; 255]
     requires { length words.now ≤ 255 }
-    ensures { result.items ≡ map content_of words.now }
+    ensures { take (length words.now) result ≡ map content_of words.now }
 {
-    let mut numbers = ArrayVec::new();
-    for word in words {
-        numbers.push(content_of(*word));
+    let mut numbers = [0; 255];
+    for (i, word) in words.iter().enumerate() {
+        numbers[i] = content_of(*word);
     }
     numbers
 }

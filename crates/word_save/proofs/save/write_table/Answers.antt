@@ -1,56 +1,96 @@
-use Rattle.std.proofs.Common.{◌≡◌, ℕ, ◌+◌, List, [], ◌∷◌, ◌++◌, length, slice_set, sym, ap, ◌∙◌, arith, length-append, append_assoc}
+use Rattle.std.proofs.Common.{◌≡◌, ℕ, ◌+◌, ◌-◌, ◌<◌, ◌≤◌, List, [], ◌∷◌, ◌++◌, length, take, drop, set, refl, ap, ◌∙◌, append-nil, arith, length-append, length-drop, length-take-le}
+use Rattle.std.specs.List.{flat_map}
+use Rattle.std.proofs.lemmas.List.{drop_all}
 use Rattle.table.specs.Tables.{table_of}
-use Rattle.words.specs.Format.{word_of}
-use Rattle.word_save.proofs.Encoded.{actors_encoded, channels_encoded, actors_fit, channels_fit, sizes}
+use Rattle.words.specs.Format.{word_of, actor_words, channel_words, row_words}
+use Rattle.word_save.specs.Saves.{written}
+use Rattle.word_save.proofs.Encoded.{actors_encoded, channels_encoded, actors_fit, channels_fit, whole_size, sizes}
+use Rattle.word_save.proofs.Written.{length_written, written_from, written_one, then_written}
 use Rattle.word_save.proofs.save.write_table.Goals as goal
 
--- the parts of a table, the last of one word
-joined : (a b xs ys end : List ℕ) (w : ℕ) → a ≡ xs → b ≡ ys → length end ≡ 1 → w ≡ word_of 7 (length a + length b)
-    → a ++ (b ++ slice_set end 0 w) ≡ (xs ++ ys) ++ word_of 7 (length (xs ++ ys)) ∷ []
-joined a b xs ys [] w e f one is = absurd (omega arith)
-joined a b xs ys (x ∷ (y ∷ more)) w e f one is = absurd (omega arith)
-joined a b xs ys (x ∷ []) w e f one is =
-    ap (λ n. a ++ (b ++ n ∷ [])) (is ∙ ap (word_of 7) (sym (length-append a b))) ∙ sym (append_assoc a b (word_of 7 (length (a ++ b)) ∷ []))
-    ∙ ap (λ l. (l ++ b) ++ word_of 7 (length (l ++ b)) ∷ []) e ∙ ap (λ l. (xs ++ l) ++ word_of 7 (length (xs ++ l)) ∷ []) f
+-- two lists of words, written one after the other, and a last word after them
+module _ (xs ys was first : List ℕ) (n : ℕ) (size : length was ≡ length xs + length ys + 1) (e : first ≡ written 0 xs was) (is : n ≡ length xs) where
+  rest_room : length ys ≤ length (take (length first - n) (drop n first))
+  rest_room =
+      let long = ap length e ∙ length_written 0 xs was (omega arith) in
+      let rest = length-drop n first in
+      let same = length-take-le (length first - n) (drop n first) (omega arith) in
+      omega arith
 
-pub size_of-requires : goal.size_of-requires
-size_of-requires c =
-    let s = sizes (table_of c.args.rows.now) c.args.rows.now.accepted _ _ c.actors-actors.ensures c.channels-channels.ensures in omega arith
+  module _ (part : List ℕ) (m : ℕ) (f : part ≡ written 0 ys (take (length first - n) (drop n first))) (js : m ≡ length ys) where
+    abbrev both : List ℕ
+    both = take n first ++ (part ++ drop (length first - n) (drop n first))
 
-pub split_at_mut-actor_words-requires : goal.split_at_mut-actor_words-requires
-split_at_mut-actor_words-requires c =
-    let s = sizes (table_of c.args.rows.now) c.args.rows.now.accepted _ _ c.actors-actors.ensures c.channels-channels.ensures in omega arith
+    both_written : both ≡ written 0 (xs ++ ys) was
+    both_written = then_written 0 n xs ys was first both (omega arith) e (omega arith) (written_from n (length first - n) ys first part refl f)
 
-pub size_of-requires-2 : goal.size_of-requires-2
-size_of-requires-2 c =
-    let s = sizes (table_of c.args.rows.now) c.args.rows.now.accepted _ _ c.actors-actors.ensures c.channels-channels.ensures in omega arith
+    last_room : n + m < length both
+    last_room =
+        let joined = length-append xs ys in
+        let long = ap length both_written ∙ length_written 0 (xs ++ ys) was (omega arith) in
+        omega arith
 
-pub split_at_mut-channel_words-requires : goal.split_at_mut-channel_words-requires
-split_at_mut-channel_words-requires c =
-    let s = sizes (table_of c.args.rows.now) c.args.rows.now.accepted _ _ c.actors-actors.ensures c.channels-channels.ensures in omega arith
+    all_written : (w : ℕ) → set both (n + m) w ≡ (xs ++ ys) ++ w ∷ []
+    all_written w =
+        let joined = length-append xs ys in
+        let one = length-append (xs ++ ys) (w ∷ []) in
+        then_written 0 (n + m) (xs ++ ys) (w ∷ []) was both _ (omega arith) both_written (omega arith) (written_one (n + m) w both last_room)
+        ∙ ap (λ l. ((xs ++ ys) ++ w ∷ []) ++ l) (drop_all (0 + length ((xs ++ ys) ++ w ∷ [])) was (omega arith))
+        ∙ append-nil ((xs ++ ys) ++ w ∷ [])
 
-pub overflow_cast-actor_words : goal.overflow_cast-actor_words
-overflow_cast-actor_words c =
-    let s = sizes (table_of c.args.rows.now) c.args.rows.now.accepted _ _ c.actors-actors.ensures c.channels-channels.ensures in omega arith
+pub write_rows-channels_from-requires-clause-fit : goal.write_rows-channels_from-requires-clause-fit
+write_rows-channels_from-requires-clause-fit c = actors_fit (table_of c.args.rows.now) c.args.rows.now.accepted c.actors.result.now c.actors.ensures
+
+pub write_rows-channels_from-requires-clause-room : goal.write_rows-channels_from-requires-clause-room
+write_rows-channels_from-requires-clause-room c =
+    let t = table_of c.args.rows.now in
+    let whole = whole_size t in
+    let actors = ap length (actors_encoded t c.actors.result.now c.actors.ensures) in
+    let all = c.requires in
+    omega arith
 
 pub write_rows-requires-clause-fit : goal.write_rows-requires-clause-fit
-write_rows-requires-clause-fit c = actors_fit (table_of c.args.rows.now) c.args.rows.now.accepted c.actors-actors.result.now c.actors-actors.ensures
+write_rows-requires-clause-fit c = channels_fit (table_of c.args.rows.now) c.args.rows.now.accepted c.channels.result.now c.channels.ensures
 
-pub write_rows-requires-2-clause-fit : goal.write_rows-requires-2-clause-fit
-write_rows-requires-2-clause-fit c = channels_fit (table_of c.args.rows.now) c.args.rows.now.accepted c.channels-channels.result.now c.channels-channels.ensures
+pub write_rows-requires-clause-room : goal.write_rows-requires-clause-room
+write_rows-requires-clause-room c =
+    let s = sizes (table_of c.args.rows.now) c.args.rows.now.accepted _ _ c.actors.ensures c.channels.ensures in
+    rest_room _ _ c.args.out.now c.write_rows-channels_from.new.out c.write_rows-channels_from.result (c.requires ∙ s.whole) c.write_rows-channels_from.ensures.out
+    c.write_rows-channels_from.ensures.size
+
+pub overflow_cast-end : goal.overflow_cast-end
+overflow_cast-end c =
+    let s = sizes (table_of c.args.rows.now) c.args.rows.now.accepted _ _ c.actors.ensures c.channels.ensures in
+    let few = s.few in
+    let size = c.write_rows-channels_from.ensures.size in
+    let more = c.write_rows.ensures.size in
+    omega arith
 
 pub word_of-requires : goal.word_of-requires
 word_of-requires c =
-    let s = sizes (table_of c.args.rows.now) c.args.rows.now.accepted _ _ c.actors-actors.ensures c.channels-channels.ensures in omega arith
+    let s = sizes (table_of c.args.rows.now) c.args.rows.now.accepted _ _ c.actors.ensures c.channels.ensures in
+    let few = s.few in
+    let size = c.write_rows-channels_from.ensures.size in
+    let more = c.write_rows.ensures.size in
+    omega arith
 
-pub bounds-end-0 : goal.bounds-end-0
-bounds-end-0 c =
-    let s = sizes (table_of c.args.rows.now) c.args.rows.now.accepted _ _ c.actors-actors.ensures c.channels-channels.ensures in omega arith
+pub bounds-out-end : goal.bounds-out-end
+bounds-out-end c =
+    let s = sizes (table_of c.args.rows.now) c.args.rows.now.accepted _ _ c.actors.ensures c.channels.ensures in
+    last_room _ _ c.args.out.now c.write_rows-channels_from.new.out c.write_rows-channels_from.result (c.requires ∙ s.whole) c.write_rows-channels_from.ensures.out
+    c.write_rows-channels_from.ensures.size c.write_rows.new.out c.write_rows.result c.write_rows.ensures.out c.write_rows.ensures.size
 
 pub returns : goal.returns
 returns c =
     let t = table_of c.args.rows.now in
-    let s = sizes t c.args.rows.now.accepted _ _ c.actors-actors.ensures c.channels-channels.ensures in
-    let actors = c.write_rows.ensures ∙ actors_encoded t c.actors-actors.result.now c.actors-actors.ensures in
-    let channels = c.write_rows-2.ensures ∙ channels_encoded t c.channels-channels.result.now c.channels-channels.ensures in
-    joined _ _ _ _ c.split_at_mut-channel_words.result.1.now c.word_of.result actors channels (omega arith) c.word_of.ensures
+    let s = sizes t c.args.rows.now.accepted _ _ c.actors.ensures c.channels.ensures in
+    let actors = actors_encoded t c.actors.result.now c.actors.ensures in
+    let channels = channels_encoded t c.channels.result.now c.channels.ensures in
+    let joined = length-append (flat_map actor_words t.actors) (flat_map channel_words t.channels) in
+    let size = c.write_rows-channels_from.ensures.size ∙ ap length actors in
+    let more = c.write_rows.ensures.size ∙ ap length channels in
+    let count : c.write_rows-channels_from.result + c.write_rows.result ≡ length (row_words t) = omega arith in
+    let end = c.word_of.ensures ∙ ap (word_of 7) count in
+    all_written _ _ c.args.out.now c.write_rows-channels_from.new.out c.write_rows-channels_from.result (c.requires ∙ s.whole) c.write_rows-channels_from.ensures.out
+    c.write_rows-channels_from.ensures.size c.write_rows.new.out c.write_rows.result c.write_rows.ensures.out c.write_rows.ensures.size _
+    ∙ (λ i. (actors i ++ channels i) ++ end i ∷ [])
