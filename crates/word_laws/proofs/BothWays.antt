@@ -47,6 +47,9 @@ module _ (ws : List ℕ) where
       }
 
 module _ (t : Table) (l : lawful t ≡ true) where
+  pub words_describe : Describes (table_words t) t
+  words_describe = record { accepted = l; written = refl }
+
   -- what is at the front of the words that are written
   pub written_front : (out : List ℕ) → take (length (table_words t)) (written 0 (table_words t) out) ≡ table_words t
   written_front out = take_at (table_words t) (drop (0 + length (table_words t)) out) (length (table_words t)) refl

@@ -1,14 +1,12 @@
 -- Words written over others, one part after the other.
-use Rattle.std.proofs.Common.{◌≡◌, ℕ, suc, ◌+◌, ◌-◌, ◌<◌, ◌≤◌, List, [], ◌∷◌, ◌++◌, length, get_or, take, drop, set, sym, ap, ◌∙◌, append_assoc, append-nil, arith, length-append, length-drop, take-append-drop, length-take-le, take_at, drop_at}
+use Rattle.std.proofs.Common.{◌≡◌, ℕ, suc, ◌+◌, ◌-◌, ◌<◌, ◌≤◌, List, [], ◌∷◌, ◌++◌, map, length, get_or, take, drop, set, sym, ap, ◌∙◌, append_assoc, append-nil, arith, length-append, length-drop, length-take-le, take_at, drop_at}
+use lib.ListN.{length-map}
 use lib.Seq.{set_split}
 use Rattle.std.specs.List.{flat_map}
 use Rattle.std.proofs.lemmas.Grind.{flat_map-append}
 use Rattle.std.proofs.lemmas.List.{drop-drop, drop_all, take_all, take_more}
+use Rattle.words.specs.Format.{word_of}
 use Rattle.word_save.specs.Saves.{written}
-
-pub written_none : (place : ℕ) (out : List ℕ) → out ≡ written place [] out
-written_none place out =
-    let e : place + 0 ≡ place = omega arith in sym (ap (λ n. take place out ++ drop n out) e ∙ take-append-drop place out)
 
 module _ (place : ℕ) (xs out : List ℕ) (h : place + length xs ≤ length out) where
   front : length (take place out ++ xs) ≡ place + length xs
@@ -45,6 +43,35 @@ pub then_written : (place n : ℕ) (xs ys was mid after : List ℕ) → place + 
     → after ≡ written place (xs ++ ys) was
 then_written place n xs ys was mid after h e k f =
     f ∙ ap (λ m. written m ys mid) k ∙ ap (written (place + length xs) ys) e ∙ written_more place xs was h ys
+
+-- a record of a head and three parts
+
+pub record_length : (head : ℕ) (x y z : List ℕ) → length (head ∷ (x ++ (y ++ z))) ≡ suc (length x + (length y + length z))
+record_length head x y z = ap suc (length-append x (y ++ z) ∙ ap (λ n. length x + n) (length-append y z))
+
+module _ (place head : ℕ) (x y z was : List ℕ) (h : place + length (head ∷ (x ++ (y ++ z))) ≤ length was) where
+  module _ (n1 : ℕ) (a : List ℕ) (e1 : a ≡ written place (head ∷ []) was) (k1 : n1 ≡ place + 1) where
+    module _ (n2 : ℕ) (b : List ℕ) (e2 : b ≡ written n1 x a) (k2 : n2 ≡ n1 + length x) where
+      two : b ≡ written place (head ∷ x) was
+      two = let l = record_length head x y z in then_written place n1 (head ∷ []) x was a b (omega arith) e1 k1 e2
+
+      module _ (n3 : ℕ) (c : List ℕ) (e3 : c ≡ written n2 y b) (k3 : n3 ≡ n2 + length y) where
+        three : c ≡ written place ((head ∷ x) ++ y) was
+        three = let l = record_length head x y z in then_written place n2 (head ∷ x) y was b c (omega arith) two (omega arith) e3
+
+        pub record_written : (n4 : ℕ) (d : List ℕ) → d ≡ written n3 z c → n4 ≡ n3 + length z
+            → (n4 ≡ place + length (head ∷ (x ++ (y ++ z)))) × (d ≡ written place (head ∷ (x ++ (y ++ z))) was)
+        record_written n4 d e4 k4 =
+            let l = record_length head x y z in
+            let m = length-append (head ∷ x) y in (
+              omega arith,
+              then_written place n3 ((head ∷ x) ++ y) z was c d (omega arith) three (omega arith) e4
+                  ∙ ap (λ w. written place w was) (append_assoc (head ∷ x) y z),
+            )
+
+-- a list of numbers, of which the code has a slice
+pub list_size : (from n : ℕ) (slice ns : List ℕ) → slice ≡ ns → n ≡ from + length slice → n ≡ from + length (map (word_of 3) ns)
+list_size from n slice ns is e = e ∙ ap (λ l. from + length l) is ∙ ap (λ m. from + m) (sym (length-map ns (word_of 3)))
 
 -- a part over the first of the words from a place on
 pub written_from : (place k : ℕ) (xs out part : List ℕ) → k ≡ length out - place → part ≡ written 0 xs (take k (drop place out))

@@ -64,10 +64,11 @@ trait Encode {
     fn size(&self) -> usize
         ensures { result ≡ length (words self.now) };
 
-    // Writes the words of the record over as many words.
-    fn encode(&self, out: &mut [u32])
-        requires { (fits self.now) × (length out.old ≡ length (words self.now)) }
-        ensures { out.new ≡ words self.now };
+    // Writes the words of the record over the first of the words given, and answers how many they are.
+    fn encode(&self, out: &mut [u32]) -> usize
+        requires { (fits self.now) × (length (words self.now) ≤ length out.old) }
+        ensures size { result ≡ length (words self.now) }
+        ensures out { out.new ≡ written 0 (words self.now) out.old };
 }
 
 impl Encode for Actor {
@@ -81,15 +82,12 @@ impl Encode for Actor {
             + option_size(self.placement.pin())
     }
 
-    fn encode(&self, out: &mut [u32]) {
+    fn encode(&self, out: &mut [u32]) -> usize {
         let times = self.times.as_slice();
-        let (head, rest) = out.split_at_mut(1);
-        let (numbers, options) = rest.split_at_mut(times.len());
-        let (not_before, pin) = options.split_at_mut(option_size(self.not_before));
-        head[0] = word_of(Kind::Actor, times.len() as u32);
-        write_numbers(times, numbers);
-        write_option(Kind::NotBefore, self.not_before, not_before);
-        write_option(Kind::Pin, self.placement.pin(), pin);
+        out[0] = word_of(Kind::Actor, times.len() as u32);
+        let times_end = write_numbers(out, 1, times);
+        let pin_from = write_option(out, times_end, Kind::NotBefore, self.not_before);
+        write_option(out, pin_from, Kind::Pin, self.placement.pin())
     }
 }
 
@@ -102,14 +100,11 @@ impl Encode for Channel {
         1 + self.writes.as_slice().len() + self.reads.as_slice().len() + option_size(self.ceiling)
     }
 
-    fn encode(&self, out: &mut [u32]) {
-        let (head, rest) = out.split_at_mut(1);
-        let (writes, rest) = rest.split_at_mut(self.writes.as_slice().len());
-        let (reads, ceiling) = rest.split_at_mut(self.reads.as_slice().len());
-        head[0] = word_of(Kind::Channel, ends_content(self));
-        write_numbers(self.writes.as_slice(), writes);
-        write_numbers(self.reads.as_slice(), reads);
-        write_option(Kind::Ceiling, self.ceiling, ceiling);
+    fn encode(&self, out: &mut [u32]) -> usize {
+        out[0] = word_of(Kind::Channel, ends_content(self));
+        let reads_from = write_numbers(out, 1, self.writes.as_slice());
+        let ceiling_from = write_numbers(out, reads_from, self.reads.as_slice());
+        write_option(out, ceiling_from, Kind::Ceiling, self.ceiling)
     }
 }
 
@@ -142,9 +137,7 @@ fn write_rows<T: Encode>(rows: &[T], out: &mut [u32]) -> usize
     // By place: of a slice that moves along, a proof knows only the part that is left.
     let mut place = 0;
     for row in rows {
-        let end = place + row.size();
-        row.encode(&mut out[place..end]);
-        place = end;
+        place += row.encode(&mut out[place..]);
     }
     place
 }
@@ -156,24 +149,33 @@ fn option_size(number: Option<u32>) -> usize
     usize::from(number.is_some())
 }
 
-// Writes the word of a number, if there is one, over as many words.
-fn write_option(kind: Kind, number: Option<u32>, out: &mut [u32])
-    requires { (small_if number ≡ true) × (length out.old ≡ length (option_words (kind_number kind) number)) }
-    ensures { out.new ≡ option_words (kind_number kind) number }
+// Writes a word from this place on, where there is a number for it, and answers the place after it.
+fn write_option(out: &mut [u32], place: usize, kind: Kind, number: Option<u32>) -> usize
+    requires { (small_if number ≡ true) × (place + length (option_words (kind_number kind) number) ≤ length out.old) }
+    ensures after { result ≡ place + length (option_words (kind_number kind) number) }
+    ensures out { out.new ≡ written place (option_words (kind_number kind) number) out.old }
 {
-    if let Some(n) = number {
-        out[0] = word_of(kind, n);
+    match number {
+        Some(n) => {
+            out[place] = word_of(kind, n);
+            place + 1
+        }
+        None => place,
     }
 }
 
-// Writes a word for each number over as many words.
-fn write_numbers(numbers: &[u32], out: &mut [u32])
-    requires { (list_all small numbers.now ≡ true) × (length out.old ≡ length numbers.now) }
-    ensures { out.new ≡ map (word_of 3) numbers.now }
+// Writes a word for each number from this place on, and answers the place after them.
+fn write_numbers(out: &mut [u32], place: usize, numbers: &[u32]) -> usize
+    requires { (list_all small numbers.now ≡ true) × (place + length numbers.now ≤ length out.old) }
+    ensures after { result ≡ place + length numbers.now }
+    ensures out { out.new ≡ written place (map (word_of 3) numbers.now) out.old }
 {
-    for (i, n) in numbers.iter().enumerate() {
-        out[i] = word_of(Kind::Number, *n);
+    let mut next = place;
+    for n in numbers {
+        out[next] = word_of(Kind::Number, *n);
+        next += 1;
     }
+    next
 }
 
 // A word of this kind and content.
