@@ -170,6 +170,7 @@ fn write_numbers(out: &mut [u32], place: usize, numbers: &[u32]) -> usize
     ensures after { result ≡ place + length numbers.now }
     ensures out { out.new ≡ written place (map (word_of 3) numbers.now) out.old }
 {
+    // By place in the record: cut into a part for each list, short records take more time.
     let mut next = place;
     for n in numbers {
         out[next] = word_of(Kind::Number, *n);

@@ -1,4 +1,5 @@
-use Rattle.std.proofs.Common.{◌≡◌, ℕ, ◌+◌, ◌-◌, ◌<◌, ◌≤◌, List, [], ◌∷◌, ◌++◌, length, take, drop, set, refl, ap, ◌∙◌, append-nil, arith, length-append, length-drop, length-take-le}
+use Rattle.std.proofs.lemmas.Grind.{common_steps}
+use Rattle.std.proofs.Common.{◌≡◌, ℕ, ◌+◌, ◌-◌, ◌<◌, ◌≤◌, List, [], ◌∷◌, ◌++◌, length, take, drop, set, refl, ap, ◌∙◌, append-nil, arith, length-append}
 use Rattle.std.specs.List.{flat_map}
 use Rattle.std.proofs.lemmas.List.{drop_all}
 use Rattle.table.specs.Tables.{table_of}
@@ -11,11 +12,7 @@ use Rattle.word_save.proofs.save.write_table.Goals as goal
 -- two lists of words, written one after the other, and a last word after them
 module _ (xs ys was first : List ℕ) (n : ℕ) (size : length was ≡ length xs + length ys + 1) (e : first ≡ written 0 xs was) (is : n ≡ length xs) where
   rest_room : length ys ≤ length (take (length first - n) (drop n first))
-  rest_room =
-      let long = ap length e ∙ length_written 0 xs was (omega arith) in
-      let rest = length-drop n first in
-      let same = length-take-le (length first - n) (drop n first) (omega arith) in
-      omega arith
+  rest_room = grind (arith, common_steps, length_written 0 xs was)
 
   module _ (part : List ℕ) (m : ℕ) (f : part ≡ written 0 ys (take (length first - n) (drop n first))) (js : m ≡ length ys) where
     abbrev both : List ℕ
@@ -25,10 +22,7 @@ module _ (xs ys was first : List ℕ) (n : ℕ) (size : length was ≡ length xs
     both_written = then_written 0 n xs ys was first both (omega arith) e (omega arith) (written_from n (length first - n) ys first part refl f)
 
     last_room : n + m < length both
-    last_room =
-        let joined = length-append xs ys in
-        let long = ap length both_written ∙ length_written 0 (xs ++ ys) was (omega arith) in
-        omega arith
+    last_room = grind (arith, both_written, length_written 0 (xs ++ ys) was, length-append xs ys)
 
     all_written : (w : ℕ) → set both (n + m) w ≡ (xs ++ ys) ++ w ∷ []
     all_written w =
