@@ -1,4 +1,4 @@
 pub mod Keywords
 pub mod Lines
 pub mod Words
-pub mod Parsed
+pub mod Numerals

@@ -1,6 +1,7 @@
 -- The token that a word is.
-use Rattle.std.specs.Prelude.{ℕ, ◌+◌, Bool, cond, ◌&&◌, List, length, Some, None, codes, Option, ◌==◌, nat_lt}
+use Rattle.std.specs.Prelude.{ℕ, ◌+◌, ◌-◌, ◌*◌, Bool, cond, ◌&&◌, List, length, Some, None, codes, Option, ◌==◌, nat_lt}
 use Rattle.std.specs.Str.Parse.{digits_value}
+use Rattle.std.specs.Char.{is_ascii_digit}
 use Rattle.std.specs.Str.{bytes_eq, all_ascii_digits}
 use Rattle.tokens.specs.declared.token.Token.{Token}
 use Rattle.tokens.specs.declared.token.Token.TheVariants.{Mark, Ticket, Open, Actor, Times, NotBefore, Pin, Channel, Writes, Reads, Ceiling, Cut, Keep, Withdraw, Rows, Number, Other}
@@ -8,6 +9,10 @@ use Rattle.tokens.specs.declared.token.Token.TheVariants.{Mark, Ticket, Open, Ac
 -- the number that a word writes, if it is one digit or more, nothing else, and below 2^32
 abbrev pub numeral : List ℕ → Option ℕ
 numeral w = cond (nat_lt 0 (length w) && (all_ascii_digits w && nat_lt (digits_value 10 w) 4294967296)) (Some (digits_value 10 w)) None
+
+-- n with one more digit
+abbrev pub with_digit : ℕ → ℕ → Option ℕ
+with_digit n c = cond (is_ascii_digit c && nat_lt (n * 10 + (c - 48)) 4294967296) (Some (n * 10 + (c - 48))) None
 
 -- the keyword of a part of a row
 abbrev pub part_word : List ℕ → Token

@@ -1,7 +1,7 @@
 // The words that a line is made of.
 ghost use Rattle.std.specs.Prelude.{◌≡◌, Some};
 ghost use Rattle.tokens.specs.Messages.{name_text};
-ghost use Rattle.tokens.specs.Tokens.{token_of, call_word, part_word, numeral, same, as_number};
+ghost use Rattle.tokens.specs.Tokens.{token_of, call_word, part_word, numeral, with_digit, same, as_number};
 
 use std::fmt;
 
@@ -119,13 +119,28 @@ fn part_word_of(word: &[u8]) -> Token
     }
 }
 
-// The number that a word of digits stands for, if it is below 2^32. The library's parse takes a sign too.
+// The number that a word of digits stands for, if it is below 2^32. It stops at the first byte that is no digit or
+// makes the number too large.
 fn number_of(word: &[u8]) -> Option<u32>
     ensures { result ≡ numeral word.now }
 {
-    if !word.iter().all(|b| b.is_ascii_digit()) {
+    if word.is_empty() {
         return None;
     }
-    let text = str::from_utf8(word).ok()?;
-    u32::from_str_radix(text, 10).ok()
+    word.iter()
+        .try_fold(0, |number, byte| with_digit(number, *byte))
+}
+
+// The number with one more digit, if that is a digit and the number is below 2^32.
+fn with_digit(n: u32, b: u8) -> Option<u32>
+    ensures { result ≡ with_digit n b }
+{
+    if b < b'0' || b > b'9' {
+        return None;
+    }
+    let more = u64::from(n) * 10 + u64::from(b - b'0');
+    if more > 4_294_967_295 {
+        return None;
+    }
+    Some(more as u32)
 }
