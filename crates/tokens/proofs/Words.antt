@@ -1,62 +1,57 @@
--- The tokens of a line are those of the words between the blanks, before the sign of a comment.
-use Rattle.std.proofs.lemmas.Grind.{common_steps}
-use Rattle.std.proofs.Common.{◌≡◌, ℕ, ◌+◌, Bool, cond, not, ltb, List, [], ◌∷◌, ◌++◌, length, map, filter, take, Some, None, Option, sym, ap, ◌∙◌, append-nil, arith}
+-- One turn of the loop that cuts a line into words: a word goes on to the first byte that ends it.
+use Rattle.std.proofs.Common.{◌≡◌, ℕ, suc, ◌+◌, ◌-◌, ◌≤◌, Bool, true, false, not, cond, ltb, ◌||◌, List, [], ◌∷◌, ◌++◌, length, get_or, take, drop, Some, None, Option, sym, ap, ◌∙◌, append_assoc, append-nil, ⊎_elim, arith}
+use Rattle.std.proofs.lemmas.Bool.{cases_Bool}
 use Rattle.std.proofs.lemmas.Bool.Decides.{nat_tests}
 use Rattle.std.proofs.lemmas.List.Sums.{prefix_len-le-length}
+use Rattle.std.proofs.Math.Seq.{take-length}
 use Rattle.std.specs.Prelude.{◌==◌}
-use Rattle.std.specs.List.{slice_split, onto_first, before_first, position_or_len}
+use Rattle.std.specs.List.{position_or_len}
 use Rattle.std.specs.Option.{unwrap_or}
 use Rattle.tokens.specs.declared.token.Token.{Token}
 use Rattle.tokens.specs.Tokens.{token_of}
-use Rattle.tokens.specs.Lines.{blank, with_word, tokens_from, tokens_of}
+use Rattle.tokens.specs.Lines.{blank, with_word, tokens_from}
 
-abbrev pub comment : ℕ → Bool
-comment b = b == 35
+-- a blank, or the sign of a comment
+abbrev pub ends_word : ℕ → Bool
+ends_word b = blank b || b == 35
 
-abbrev pub some_byte : List ℕ → Bool
-some_byte w = not (length w == 0)
+word_ends : (before : List Token) (w : List ℕ) (b : ℕ) (bs : List ℕ) → ends_word b ≡ true → tokens_from before w (b ∷ bs) ≡ tokens_from (with_word before w) [] (b ∷ bs)
+word_ends before w b bs h = grind (arith, nat_tests)
 
--- the tokens of the words that are not empty
-abbrev pub tokens_all : List (List ℕ) → List Token
-tokens_all ws = map token_of (filter some_byte ws)
+word_goes_on : (before : List Token) (w : List ℕ) (b : ℕ) (bs : List ℕ) → ends_word b ≡ false → tokens_from before w (b ∷ bs) ≡ tokens_from before (w ++ b ∷ []) bs
+word_goes_on before w b bs h = grind (arith, nat_tests)
 
--- the word that was begun goes before the first
-abbrev onto_word : List ℕ → List (List ℕ) → List (List ℕ)
-onto_word w [] = w ∷ []
-onto_word w (p ∷ ps) = (w ++ p) ∷ ps
+-- the tokens where the word takes in the first n bytes of what follows, and ends
+abbrev after_word : List Token → List ℕ → List ℕ → ℕ → List Token
+after_word before w bs n = tokens_from (with_word before (w ++ take n bs)) [] (drop n bs)
 
-onto_letter : (w : List ℕ) (b : ℕ) (ps : List (List ℕ)) → onto_word (w ++ b ∷ []) ps ≡ onto_word w (onto_first b ps)
-onto_letter w b ps = grind (arith, common_steps)
+word_from : (before : List Token) (w bs : List ℕ) → tokens_from before w bs ≡ after_word before w bs (position_or_len ends_word bs)
+word_from before w [] = ap (with_word before) (sym (append-nil w))
+word_from before w (b ∷ bs) =
+    let n = position_or_len ends_word bs in
+    ⊎_elim
+    (λ (e : ends_word b ≡ true).
+    word_ends before w b bs e ∙ ap (λ l. tokens_from (with_word before l) [] (b ∷ bs)) (sym (append-nil w)) ∙ ap (λ t. after_word before w (b ∷ bs) (cond (not t) (1 + n) 0)) (sym e))
+    (λ (e : ends_word b ≡ false).
+    let one : suc n ≡ 1 + n = omega arith in
+    word_goes_on before w b bs e ∙ word_from before (w ++ b ∷ []) bs ∙ ap (λ l. tokens_from (with_word before l) [] (drop n bs)) (append_assoc w (b ∷ []) (take n bs))
+    ∙ ap (after_word before w (b ∷ bs)) one ∙ ap (λ t. after_word before w (b ∷ bs) (cond (not t) (1 + n) 0)) (sym e))
+    (cases_Bool (ends_word b))
 
-first_word : (before : List Token) (w : List ℕ) (ps : List (List ℕ)) → with_word before w ++ tokens_all ps ≡ before ++ tokens_all ((w ++ []) ∷ ps)
-first_word before w ps = grind (arith, common_steps)
+-- the place of the first byte that ends the word, or the length
+end_is : (bs : List ℕ) (e : ℕ) (p : Option ℕ) → p ≡ cond (ltb (position_or_len ends_word bs) (length bs)) (Some (position_or_len ends_word bs)) None
+    → e ≡ unwrap_or p (length bs) → e ≡ position_or_len ends_word bs
+end_is bs e p h k = grind (arith, nat_tests, prefix_len-le-length (λ b. not (ends_word b)) bs)
 
-last_word : (before : List Token) (w : List ℕ) → with_word before w ≡ before ++ tokens_all ((w ++ []) ∷ [])
-last_word before w = sym (append-nil (with_word before w)) ∙ first_word before w []
+begins_word : (b : ℕ) → (b ≡ 35 → ⊥) → blank b ≡ false → ends_word b ≡ false
+begins_word b h k = grind (arith, nat_tests)
 
--- the parts of a line whose first byte is b
-cut_at : (t : Bool) (b : ℕ) (n : ℕ) (bs : List ℕ) → slice_split blank (take (cond (not t) (1 + n) 0) (b ∷ bs))
-    ≡ cond t ([] ∷ []) (cond (blank b) ([] ∷ slice_split blank (take n bs)) (onto_first b (slice_split blank (take n bs))))
-cut_at t b n bs = grind arith
-
-one_byte : (t k : Bool) (before : List Token) (w : List ℕ) (b : ℕ) (bs : List ℕ) (ps : List (List ℕ))
-    → tokens_from (with_word before w) [] bs ≡ with_word before w ++ tokens_all (onto_word [] ps)
-    → tokens_from before (w ++ b ∷ []) bs ≡ before ++ tokens_all (onto_word (w ++ b ∷ []) ps)
-    → cond t (with_word before w) (cond k (tokens_from (with_word before w) [] bs) (tokens_from before (w ++ b ∷ []) bs))
-    ≡ before ++ tokens_all (onto_word w (cond t ([] ∷ []) (cond k ([] ∷ ps) (onto_first b ps))))
-one_byte t k before w b bs ps x y = grind (arith, last_word, first_word, onto_letter)
-
-cut_from : (before : List Token) (w line : List ℕ) → tokens_from before w line ≡ before ++ tokens_all (onto_word w (slice_split blank (before_first comment line)))
-cut_from before w [] = last_word before w
-cut_from before w (b ∷ bs) =
-    one_byte (comment b) (blank b) before w b bs (slice_split blank (before_first comment bs)) (cut_from (with_word before w) [] bs) (cut_from before (w ++ b ∷ []) bs)
-    ∙ ap (λ ps. before ++ tokens_all (onto_word w ps)) (sym (cut_at (comment b) b (position_or_len comment bs) bs))
-
--- the place of the sign, or the line's length
-end_is : (line : List ℕ) (e : ℕ) (p : Option ℕ) → p ≡ cond (ltb (position_or_len comment line) (length line)) (Some (position_or_len comment line)) None
-    → e ≡ unwrap_or p (length line) → e ≡ position_or_len comment line
-end_is line e p h k = grind (arith, nat_tests, prefix_len-le-length (λ b. not (comment b)) line)
-
-pub tokens_by_words : (line : List ℕ) (e : ℕ) (p : Option ℕ) → p ≡ cond (ltb (position_or_len comment line) (length line)) (Some (position_or_len comment line)) None
-    → e ≡ unwrap_or p (length line) → tokens_all (slice_split blank (take e line)) ≡ tokens_of line
-tokens_by_words line e p h k = grind (arith, end_is, cut_from)
+pub at_word : (before : List Token) (rest others : List ℕ) (e : ℕ) (p : Option ℕ) → 1 ≤ length rest → (get_or rest 0 0 ≡ 35 → ⊥) → blank (get_or rest 0 0) ≡ false → others ≡ take (length rest - 1) (drop 1 rest)
+    → p ≡ cond (ltb (position_or_len ends_word others) (length others)) (Some (position_or_len ends_word others)) None → e ≡ unwrap_or p (length others)
+    → tokens_from before [] rest ≡ tokens_from (before ++ token_of (take (e + 1) rest) ∷ []) [] (drop (e + 1) rest)
+at_word before [] others e p some sign letter os h k = absurd (omega arith)
+at_word before (b ∷ bs) others e p some sign letter os h k =
+    let less : length (b ∷ bs) - 1 ≡ length bs = omega arith in
+    let all : others ≡ bs = os ∙ ap (λ n. take n bs) less ∙ take-length bs in
+    let one : suc (position_or_len ends_word bs) ≡ e + 1 = let end = end_is others e p h k ∙ ap (position_or_len ends_word) all in omega arith in
+    word_goes_on before [] b bs (begins_word b sign letter) ∙ word_from before (b ∷ []) bs ∙ (λ i. tokens_from (before ++ token_of (take (one i) (b ∷ bs)) ∷ []) [] (drop (one i) (b ∷ bs)))

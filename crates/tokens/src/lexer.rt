@@ -11,15 +11,26 @@ const COMMENT: u8 = b'#';
 pub fn tokens(heap: Global, line: &[u8]) -> Result<Vec<Token>, AllocError>
     ensures { IfOk result (λ v. v.items ≡ tokens_of line.now) }
 {
-    let end = line
-        .iter()
-        .position(|b| *b == COMMENT)
-        .unwrap_or(line.len());
-    line[..end]
-        .split(|b| is_blank(*b))
-        .filter(|word| !word.is_empty())
-        .map(Token::from)
-        .collect(heap)
+    let mut all = Vec::new(heap);
+    let mut rest = line;
+    // By a loop, so that each byte is looked at once: a blank ends a word, and the sign ends the line too.
+    while let [first, others @ ..] = rest {
+        if *first == COMMENT {
+            break;
+        }
+        if is_blank(*first) {
+            rest = others;
+        } else {
+            let end = others
+                .iter()
+                .position(|b| is_blank(*b) || *b == COMMENT)
+                .unwrap_or(others.len());
+            let (word, left) = rest.split_at(end + 1);
+            all.push(Token::from(word))?;
+            rest = left;
+        }
+    }
+    Ok(all)
 }
 
 // Words are separated by spaces, tabs and carriage returns.
