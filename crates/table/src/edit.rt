@@ -1,4 +1,4 @@
-// An edit of the rows of a table, whatever it is.
+// An edit of the rows of a table: one of four steps, of whatever type.
 ghost use Rattle.rows.specs.Steps.{Step, Does};
 ghost use Rattle.rows.specs.Table.{Table};
 ghost use Rattle.rows.specs.declared.fault.Fault.{Fault};
@@ -8,7 +8,7 @@ ghost use Rattle.table.specs.Tables.{table_of};
 use crate::storage::Rows;
 use rows::fault::Fault;
 
-// An edit is a step of the table.
+// An edit is one of the four steps of a table, as `known` says.
 pub trait Edit: Drop {
     // What it answers, where it is granted.
     type Answer;

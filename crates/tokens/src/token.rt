@@ -119,8 +119,8 @@ fn part_word_of(word: &[u8]) -> Token
     }
 }
 
-// The number that a word of digits stands for, if it is below 2^32. It stops at the first byte that is no digit or
-// makes the number too large.
+// The number that a word of digits stands for, if it is below 2^32. By a fold, which stops at the first byte that is no
+// digit or makes the number too large: the library's parse takes a sign too, and wants text.
 fn number_of(word: &[u8]) -> Option<u32>
     ensures { result ≡ numeral word.now }
 {

@@ -105,7 +105,7 @@ fn add_channel(rows: &mut Rows, part: &[u32]) -> Result<usize, Fault>
 }
 
 // The contents of the words of a list, which a head counts in 8 bits. They lie in an array, whose length the caller
-// has: a load takes no memory, and no crate is used but the programs' `anyhow`.
+// has: a load takes no memory, and an `ArrayVec` would be of one more crate.
 fn contents(words: &[u32]) -> [u32; 255]
     requires { length words.now ≤ 255 }
     ensures { take (length words.now) result ≡ map content_of words.now }
